@@ -1,0 +1,5 @@
+pub mod Laws
+pub mod Blocks
+pub mod Schedules
+pub mod Quadrants
+pub mod Digits
