@@ -1,0 +1,42 @@
+// Why a line has no other answer: it is refused by a number, or not understood, or memory is short.
+ghost use mathlib.Core.Path.{_≡_};
+ghost use Rattle.script.specs.declared.trouble.Trouble.the-variants.{Refused as isRefused, Unclear as isUnclear};
+use crate::reason::Reason;
+use orders::refusal::Refusal;
+use std::alloc::AllocError;
+use std::alloc::Refused;
+
+#[derive(Clone, Copy)]
+pub enum Trouble {
+    Refused(Refusal),
+    Unclear(Reason),
+    Memory,
+}
+
+pub impl From<Refusal> for Trouble as TroubleFromRefusal {
+    ghost converts = { λ e r. r ≡ isRefused e };
+
+    fn from(e: Refusal) -> Trouble {
+        Trouble::Refused(e)
+    }
+}
+
+pub impl From<Reason> for Trouble as TroubleFromReason {
+    ghost converts = { λ e r. r ≡ isUnclear e };
+
+    fn from(e: Reason) -> Trouble {
+        Trouble::Unclear(e)
+    }
+}
+
+pub impl From<AllocError> for Trouble as TroubleFromAlloc {
+    fn from(_e: AllocError) -> Trouble {
+        Trouble::Memory
+    }
+}
+
+pub impl<T: Drop> From<Refused<T>> for Trouble as TroubleFromRefused {
+    fn from(_e: Refused<T>) -> Trouble {
+        Trouble::Memory
+    }
+}
