@@ -86,8 +86,13 @@ impl Session {
         }
         let order = self.chosen()?;
         let n = order.space.n();
-        let Some(question) = parse_question(heap, verb, rest, n)? else {
-            return Err(Trouble::Unclear(Reason::Command));
+        let question = match parse_question(heap, verb, rest, n) {
+            Ok(Some(question)) => question,
+            Ok(None) => return Err(Trouble::Unclear(Reason::Command)),
+            Err(trouble) => {
+                self.started = self.started || is_refused(trouble);
+                return Err(trouble);
+            }
         };
         self.started = true;
         Ok(answer_text(heap, ask_chosen(order, question), n)?)
@@ -113,6 +118,14 @@ impl Session {
         let space = Space::new(n as u8, p as u8)?;
         self.order = Some(Order { kind, space });
         Ok(String::from_str(heap, "ok")?)
+    }
+}
+
+// Whether the line was understood and refused: such a line ends the set-up as any other question does.
+fn is_refused(trouble: Trouble) -> bool {
+    match trouble {
+        Trouble::Refused(_) => true,
+        Trouble::Unclear(_) | Trouble::Memory => false,
     }
 }
 
