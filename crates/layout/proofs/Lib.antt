@@ -1,0 +1,12 @@
+pub mod Numbers
+pub mod Headings
+pub mod Entries
+pub mod Pages
+pub mod Trips
+pub mod Cleans
+pub mod Lists
+pub mod Leaves
+pub mod Inners
+pub mod Judging
+pub mod LeafKeeps
+pub mod InnerKeeps

@@ -1,0 +1,11 @@
+pub mod Content
+pub mod Bytes
+pub mod Heads
+pub mod Reading
+pub mod Writing
+pub mod Listed
+pub mod Edits
+pub mod Changes
+pub mod Rules
+pub mod EditLaws
+pub mod Examples

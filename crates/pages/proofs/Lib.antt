@@ -1,0 +1,7 @@
+pub mod Cuts
+pub mod Turns
+pub mod Goods
+pub mod Rooms
+pub mod Fills
+pub mod Skips
+pub mod Histories

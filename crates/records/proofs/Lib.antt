@@ -1,0 +1,5 @@
+pub mod Pigeons
+pub mod Links
+pub mod Frees
+pub mod Rising
+pub mod Trays

@@ -1,0 +1,3 @@
+pub mod Chain
+pub mod Free
+pub mod Tray
