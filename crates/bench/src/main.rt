@@ -1,8 +1,5 @@
 // The bench: runs a script line by line and prints what each line did.
-mod answer;
-mod session;
-
-use session::Session;
+use session::run::run_script;
 use std::env;
 use std::error::AnyError;
 use std::fs;
@@ -21,13 +18,7 @@ fn script_text(rt: &LibcRuntime) -> Result<String, AnyError> {
 
 fn run(rt: &LibcRuntime) -> Result<(), AnyError> {
     let text = script_text(rt)?;
-    let mut session = Session::new();
-    for line in text.lines() {
-        if let Some(answer) = session.line(rt.alloc(), line)? {
-            rt.println(answer)?;
-        }
-    }
-    Ok(())
+    run_script(rt, text.as_str())
 }
 
 fn main(rt: LibcRuntime) -> Result<(), AnyError> {

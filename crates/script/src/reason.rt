@@ -11,6 +11,8 @@ pub enum Reason {
     Number,
     // a set-up line that comes too late, or a second time
     Order,
+    // more layers than the program has a form for
+    Layers,
 }
 
 pub impl fmt::Display for Reason as ReasonDisplay {
@@ -21,6 +23,7 @@ pub impl fmt::Display for Reason as ReasonDisplay {
                 Reason::Words => "wrong number of words",
                 Reason::Number => "a number is missing or does not fit",
                 Reason::Order => "a set-up line out of its order",
+                Reason::Layers => "at most two layers",
             },
         )
     }

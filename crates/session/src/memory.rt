@@ -1,0 +1,62 @@
+// The memory that is lent to a store.
+ghost use Prim.Native.Nat.{_<_};
+use crate::answer::hex_text;
+use std::alloc::AllocError;
+use std::alloc::Global;
+use std::error::AnyError;
+use std::fs;
+
+const PAGE: usize = 128;
+
+#[derive(Drop)]
+pub enum Memory {
+    // of a memory store
+    Bytes(Vec<u8>),
+}
+
+// Pages of which every byte is the same.
+pub fn filled(heap: Global, pages: u16, byte: u8) -> Result<Memory, AllocError> {
+    Ok(Memory::Bytes(vec![in heap; byte; pages as usize * PAGE]?))
+}
+
+fn is_zero(bytes: &[u8]) -> bool {
+    for b in bytes {
+        if *b != 0 {
+            return false;
+        }
+    }
+    true
+}
+
+// Prints every part of so many bytes that is not all zeros, under its number.
+fn print_parts(
+    rt: &LibcRuntime,
+    name: &str,
+    bytes: &[u8],
+    size: usize,
+    most: usize,
+) -> Result<(), AnyError>
+    requires { ⌜ 0 < size ⌝ }
+{
+    for (i, part) in bytes.chunks_exact(size).take(most).enumerate() {
+        if !is_zero(part) {
+            let text = hex_text(rt.alloc(), part)?;
+            let number = i + 1;
+            println!(rt, "{name} {number}: {text}")?;
+        }
+    }
+    Ok(())
+}
+
+pub fn dump(rt: &LibcRuntime, memory: &Memory) -> Result<(), AnyError> {
+    match memory {
+        Memory::Bytes(bytes) => print_parts(rt, "page", bytes.as_slice(), PAGE, 65535),
+    }
+}
+
+pub fn save(rt: &LibcRuntime, memory: &Memory, file: &str) -> Result<(), AnyError> {
+    match memory {
+        Memory::Bytes(bytes) => fs::write(rt, file, bytes.as_slice())?,
+    }
+    Ok(())
+}
