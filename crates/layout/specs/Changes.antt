@@ -37,15 +37,14 @@ abbrev pub split-of : ChildPages → Split ℕ
 split-of (One v) = one v
 split-of (Two v k w) = two v k w
 
--- two pages do not go into a list of eleven
-abbrev pub No-room : ChildPages → List Entry → Type 0
-No-room (One v) es = ⊥
-No-room (Two v k w) es = length es ≡ 11
+abbrev pub Are-two : ChildPages → Type 0
+Are-two (One v) = ⊥
+Are-two (Two v k w) = Unit {0}
 
--- other pages in a child's place, or there is no room for them
+-- other pages in a child's place, or a list of eleven has no room for two
 abbrev pub Puts : ℕ → ChildPages → List Entry → Bool → List Entry → Type 0
 Puts a s es true after = after ≡ put-child es a (split-of s)
-Puts a s es false after = No-room s es × (after ≡ es)
+Puts a s es false after = (length es ≡ 11) × (after ≡ es) × Are-two s
 
 -- the key that entry i has afterwards: 0 for the last one
 pub record Ends (es : List Entry) (i key : ℕ) : Type 0 where

@@ -3,3 +3,4 @@ pub mod Links
 pub mod Frees
 pub mod Rising
 pub mod Trays
+pub mod Peeks

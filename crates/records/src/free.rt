@@ -4,6 +4,7 @@ ghost use lib.ListN.{length, getD};
 ghost use Rattle.records.specs.Chain.{Chained, Absent, walk};
 
 pub mod methods;
+pub mod places;
 
 // Free numbers from 1 to 1,025, each a record with the index of the next; 0 ends the chain, and 65,535 stands at a number that is not in it.
 #[derive(Drop)]

@@ -80,9 +80,10 @@ lodge-parts (suc (suc h)) m p a free =
     let es : List Entry = m p .entries in
     let r : Made (Split ℕ) = lodge-at (suc h) m (pick es a) a free in
     let i = lodge-parts (suc h) m (pick es a) a free in
-    let g = inner-parts es a (r .part) (page-splits-at (suc h) m (pick es a) a) (i .0) in
-    (place-parts (suc (suc h)) (fit-inner (swap es a (r .part))) (r .writes) (r .rest) ∙ g,
-      omega (arith, place-length (suc (suc h)) (fit-inner (swap es a (r .part))) (r .writes) (r .rest), g, i .1))
+    let g = inner-parts es a (r .part) (page-splits-at (suc h) m (pick es a) a) (i .0) in (
+      place-parts (suc (suc h)) (fit-inner (swap es a (r .part))) (r .writes) (r .rest) ∙ g,
+      omega (arith, place-length (suc (suc h)) (fit-inner (swap es a (r .part))) (r .writes) (r .rest), g, i .1),
+    )
 
 place-left-length : (level : ℕ) (es : List Entry) (ws : List Write) (free : List ℕ) → length (place-left-at level es ws free .writes) ≤ suc (length ws)
 place-left-length level [] ws free = omega arith

@@ -23,8 +23,12 @@ use Rattle.tree.proofs.CopySteps.{Shaped, Moved, lodge-moved, withdraw-moved, 
 -- pages and free list as one list
 all-numbers : (limit : ℕ) (ps free : List ℕ) → ((p : ℕ) → times p ps + times p free ≡ times p (usable limit)) → length ps + length free ≡ limit - 1
 all-numbers limit ps free h =
-    omega (arith, length-append ps free, CopyShares.upward-length 2 (limit - 1),
-      CopyShares.same-length (ps ++ free) (usable limit) (λ p. weigh-append (mark p) ps free ∙ h p))
+    omega (
+      arith,
+      length-append ps free,
+      CopyShares.upward-length 2 (limit - 1),
+      CopyShares.same-length (ps ++ free) (usable limit) (λ p. weigh-append (mark p) ps free ∙ h p),
+    )
 
 disjoint-of : (limit : ℕ) (ps free : List ℕ) → ((p : ℕ) → times p ps + times p free ≡ times p (usable limit)) → CopyStanding.Disjoint ps free
 disjoint-of limit ps free h p = omega (arith, h p, CopyShares.upward-once p 2 (limit - 1))
@@ -114,10 +118,12 @@ lodge-law m limit total top s a z in-top enough =
     let k = lodge-takes (s .tree) (s .height) a in
     let shape = shaped-of m limit (s .height) total top (s .tree) (z .sound) in
     let e = lodge-events top (s .tree) (s .height) (s .free) a shape in
-    let w = lodge-moved top (s .tree) (s .height) (s .free) a shape (disjoint-of limit (pages-of (s .tree)) (s .free) (z .shared)) in-top (omega arith) in
-    (e, copied m limit total (suc total) top s a k (lodge-step s a) z w
-      (ap counts e ∙ CopySums.enter-sum a (events-of (s .tree)) ∙ ap suc (sum-of m limit (s .height) total top (s .tree) (z .sound)))
-      (omega (arith, ap length (w .freed), length-append (path-of (s .tree) a) (drop k (s .free)), length-drop k (s .free))))
+    let w = lodge-moved top (s .tree) (s .height) (s .free) a shape (disjoint-of limit (pages-of (s .tree)) (s .free) (z .shared)) in-top (omega arith) in (
+      e,
+      copied m limit total (suc total) top s a k (lodge-step s a) z w
+          (ap counts e ∙ CopySums.enter-sum a (events-of (s .tree)) ∙ ap suc (sum-of m limit (s .height) total top (s .tree) (z .sound)))
+          (omega (arith, ap length (w .freed), length-append (path-of (s .tree) a) (drop k (s .free)), length-drop k (s .free))),
+    )
 
 -- the events rise, and so each has a count
 rising-some : (lo hi : ℕ) (es : List Entry) → LeafKeys lo hi es → All (λ e. 1 ≤ e .value) es
@@ -146,30 +152,36 @@ withdraw-law m limit total top s a z low has =
     let r = withdraw-room top (s .height) a (s .free) low (s .tree) shape (number-law m limit total top s z .1) has in
     let enough : k ≤ length (s .free) = omega (arith, r .0, r .1) in
     let w = withdraw-moved top (s .tree) (s .height) (s .free) a shape (disjoint-of limit (pages-of (s .tree)) (s .free) (z .shared)) enough in
-    let c = CopySums.remove-sum a (events-of (s .tree)) (rising-some 0 top (events-of (s .tree)) (sorted-law m limit total top s z)) has in
-    (enough, e, copied m limit total (total - 1) top s a k (withdraw-step s a) z w
-      (omega (arith, ap counts e, c, sum-of m limit (s .height) total top (s .tree) (z .sound)))
-      (omega (arith, r .0, r .2, ap length (w .freed), length-append (path-of (s .tree) a) (drop k (s .free)), length-drop k (s .free))))
+    let c = CopySums.remove-sum a (events-of (s .tree)) (rising-some 0 top (events-of (s .tree)) (sorted-law m limit total top s z)) has in (
+      enough,
+      e,
+      copied m limit total (total - 1) top s a k (withdraw-step s a) z w
+          (omega (arith, ap counts e, c, sum-of m limit (s .height) total top (s .tree) (z .sound)))
+          (omega (arith, r .0, r .2, ap length (w .freed), length-append (path-of (s .tree) a) (drop k (s .free)), length-drop k (s .free))),
+    )
 
 pub count-law : Count-law
 count-law m limit total top s a b z =
-    let shape = shaped-of m limit (s .height) total top (s .tree) (z .sound) in
-    (ap (λ (x : List Entry). count-at x b) (lodge-events top (s .tree) (s .height) (s .free) a shape) ∙ enter-count a b (events-of (s .tree)),
+    let shape = shaped-of m limit (s .height) total top (s .tree) (z .sound) in (
+      ap (λ (x : List Entry). count-at x b) (lodge-events top (s .tree) (s .height) (s .free) a shape) ∙ enter-count a b (events-of (s .tree)),
       ap (λ (x : List Entry). count-at x b) (withdraw-events top (s .tree) (s .height) (s .free) a shape)
-      ∙ remove-count a b 0 top (events-of (s .tree)) (sorted-law m limit total top s z))
+          ∙ remove-count a b 0 top (events-of (s .tree)) (sorted-law m limit total top s z),
+    )
 
 pub sum-law : Sum-law
 sum-law m limit total top s a z =
-    let shape = shaped-of m limit (s .height) total top (s .tree) (z .sound) in
-    (ap counts (lodge-events top (s .tree) (s .height) (s .free) a shape) ∙ CopySums.enter-sum a (events-of (s .tree)),
+    let shape = shaped-of m limit (s .height) total top (s .tree) (z .sound) in (
+      ap counts (lodge-events top (s .tree) (s .height) (s .free) a shape) ∙ CopySums.enter-sum a (events-of (s .tree)),
       λ has. ap (λ (x : List Entry). suc (counts x)) (withdraw-events top (s .tree) (s .height) (s .free) a shape)
-      ∙ CopySums.remove-sum a (events-of (s .tree)) (rising-some 0 top (events-of (s .tree)) (sorted-law m limit total top s z)) has)
+          ∙ CopySums.remove-sum a (events-of (s .tree)) (rising-some 0 top (events-of (s .tree)) (sorted-law m limit total top s z)) has,
+    )
 
 pub greatest-law : Greatest-law
 greatest-law m limit total top s a greatest z w =
-    let shape = shaped-of m limit (s .height) total top (s .tree) (z .sound) in
-    (λ h. subst (Within greatest) (sym (lodge-events top (s .tree) (s .height) (s .free) a shape)) (CopySums.enter-within a greatest (events-of (s .tree)) w h),
-      subst (Within greatest) (sym (withdraw-events top (s .tree) (s .height) (s .free) a shape)) (CopySums.remove-within a greatest (events-of (s .tree)) w))
+    let shape = shaped-of m limit (s .height) total top (s .tree) (z .sound) in (
+      λ h. subst (Within greatest) (sym (lodge-events top (s .tree) (s .height) (s .free) a shape)) (CopySums.enter-within a greatest (events-of (s .tree)) w h),
+      subst (Within greatest) (sym (withdraw-events top (s .tree) (s .height) (s .free) a shape)) (CopySums.remove-within a greatest (events-of (s .tree)) w),
+    )
 
 pub frame-law : Frame-law
 frame-law n m m′ h s = CopyStanding.frame n m m′ (λ p i. CopyShares.times-of-all (λ (q : ℕ). m′ q ≡ m q) (pages n) p h i) s
@@ -191,11 +203,12 @@ empty-law m limit top = record { sound = (refl, refl); shared = λ p. omega arit
 pub range-law : Range-law
 range-law m limit total top s z =
     let usable-only : (ps : List ℕ) → ((p : ℕ) → times p ps ≤ times p (usable limit)) → All (λ p. (2 ≤ p) × (p ≤ limit)) ps = λ ps h.
-      CopyShares.all-of-times (λ (p : ℕ). (2 ≤ p) × (p ≤ limit)) ps
-      (λ p i. let w = CopyShares.upward-within p 2 (limit - 1) (omega (arith, h p)) in (w .0, omega (arith, w .0, w .1))) in
-    (usable-only (pages-of (s .tree)) (λ p. omega (arith, z .shared p)),
+    CopyShares.all-of-times (λ (p : ℕ). (2 ≤ p) × (p ≤ limit)) ps
+    (λ p i. let w = CopyShares.upward-within p 2 (limit - 1) (omega (arith, h p)) in (w .0, omega (arith, w .0, w .1))) in (
+      usable-only (pages-of (s .tree)) (λ p. omega (arith, z .shared p)),
       usable-only (s .free) (λ p. omega (arith, z .shared p)),
-      CopyShares.times-apart (s .free) (λ p. omega (arith, disjoint-of limit (pages-of (s .tree)) (s .free) (z .shared) p)))
+      CopyShares.times-apart (s .free) (λ p. omega (arith, disjoint-of limit (pages-of (s .tree)) (s .free) (z .shared) p)),
+    )
 
 pub opened-law : Opened-law
 opened-law m limit height root total top n s = record {

@@ -103,13 +103,13 @@ unused-times ps (x ∷ xs) p =
     let i = unused-times ps xs p in
     by-eq (λ (z : List ℕ). times p z ≡ cond (eqb (times p ps) 0) (times p (x ∷ xs)) 0) (times x ps) 0 _ _
     (λ e. by-eq₂ (λ (u v : ℕ). times p (unused ps xs) ≡ u → mark p x + times p (unused ps xs) ≡ v) (times p ps) 0 _ _ _ _
-      (λ _ j. omega arith)
-      (λ ne j. omega (arith, mark-apart p x (λ q. ne (ap (λ (z : ℕ). times z ps) (sym q) ∙ e))))
-      i)
+    (λ _ j. omega arith)
+    (λ ne j. omega (arith, mark-apart p x (λ q. ne (ap (λ (z : ℕ). times z ps) (sym q) ∙ e))))
+    i)
     (λ ne. by-eq₂ (λ (u v : ℕ). times p (unused ps xs) ≡ u → times p (unused ps xs) ≡ v) (times p ps) 0 _ _ _ _
-      (λ e j. omega (arith, mark-apart p x (λ q. ne (ap (λ (z : ℕ). times z ps) q ∙ e))))
-      (λ _ j. j)
-      i)
+    (λ e j. omega (arith, mark-apart p x (λ q. ne (ap (λ (z : ℕ). times z ps) q ∙ e))))
+    (λ _ j. j)
+    i)
 
 -- pages within 2 to limit, none twice, and the unused ones of 2 to limit
 pub unused-shares : (limit : ℕ) (ps : List ℕ) → All (λ p. (2 ≤ p) × (p ≤ limit)) ps → Apart ps →
@@ -118,5 +118,5 @@ unused-shares limit ps range once p =
     by-eq (λ (z : ℕ). times p (unused ps (usable limit)) ≡ z → times p ps + times p (unused ps (usable limit)) ≡ times p (usable limit)) (times p ps) 0 _ _
     (λ e j. omega arith)
     (λ ne j. (let r = times-of-all (λ (q : ℕ). (2 ≤ q) × (q ≤ limit)) ps p range (omega arith) in
-      omega (arith, apart-times ps p once, within-upward p 2 (limit - 1) (r .0) (omega (arith, r .0, r .1)))))
+    omega (arith, apart-times ps p once, within-upward p 2 (limit - 1) (r .0) (omega (arith, r .0, r .1)))))
     (unused-times ps (usable limit) p)

@@ -84,8 +84,14 @@ pub old-after-some : (n : Node) (ws done left : List Write) (rest free : List �
 old-after-some n ws done left rest free m b e d s =
     CopyStanding.frame n m (after done m)
     (λ p t. CopyStanding.after-other done m p
-    (omega (arith, d p, CopyStanding.thread-times p ws rest free e, ap (λ (z : List Write). times p (written z)) b,
-      ap (times p) (written-append done left), weigh-append (mark p) (written done) (written left))))
+    (omega (
+      arith,
+      d p,
+      CopyStanding.thread-times p ws rest free e,
+      ap (λ (z : List Write). times p (written z)) b,
+      ap (times p) (written-append done left),
+      weigh-append (mark p) (written done) (written left),
+    )))
     s
 
 -- a balance and a thread give that no page is lost
@@ -141,9 +147,9 @@ module _ (top : ℕ) (n : Node) (h : ℕ) (free : List ℕ) (a : ℕ) (shape : O
       let len : length (written (lodged n a free .writes)) ≡ h + path-splits n a + page-splits n a = CopyNumbers.written-length (lodged n a free .writes) ∙ lodged-count in
       record {
         shape = (
-            new-root-ordered (lodge n a free .part) _ _ 0 top (CopyLodging.lodge-ordered n a 0 top free (omega arith) in-top (shape .0)),
-            new-root-level (lodge n a free .part) _ _ h (CopyLodging.lodge-level n a h free (shape .1)),
-            new-root-filled (lodge n a free .part) _ _ (CopyLodging.lodge-filled n a free (shape .2)),
+          new-root-ordered (lodge n a free .part) _ _ 0 top (CopyLodging.lodge-ordered n a 0 top free (omega arith) in-top (shape .0)),
+          new-root-level (lodge n a free .part) _ _ h (CopyLodging.lodge-level n a h free (shape .1)),
+          new-root-filled (lodge n a free .part) _ _ (CopyLodging.lodge-filled n a free (shape .2)),
         );
         took = lodged-count;
         wrote = front-is (written (lodged n a free .writes)) (lodged n a free .rest) free (h + path-splits n a + page-splits n a) lodged-thread len;

@@ -82,8 +82,13 @@ mutual
   pub tree-sum-in : (f : Forest) → Filled-in f → Within 65535 (events-in f) → counts (events-in f) ≤ 655350 * length (pages-in f)
   tree-sum-in (last n) z w = tree-sum n z w
   tree-sum-in (more n k f) z w =
-      omega (arith, append-sum (events n) (events-in f), length-append (pages n) (pages-in f),
-        tree-sum n (z .0) (within-left 65535 (events n) (events-in f) w), tree-sum-in f (z .1) (within-right 65535 (events n) (events-in f) w))
+      omega (
+        arith,
+        append-sum (events n) (events-in f),
+        length-append (pages n) (pages-in f),
+        tree-sum n (z .0) (within-left 65535 (events n) (events-in f) w),
+        tree-sum-in f (z .1) (within-right 65535 (events n) (events-in f) w),
+      )
 
 pub total-law : Total-law
 total-law m limit height root total top n s low w = omega (arith, s .sum, s .room, tree-sum n (s .filled) w)

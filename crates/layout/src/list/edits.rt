@@ -13,7 +13,7 @@ use crate::list::EntryList;
 
 impl EntryList {
     // In a leaf: the count at an address, if it has one.
-    pub fn count_at(&self, address: u64) -> Option<u16>
+    pub fn count(&self, address: u64) -> Option<u16>
         ensures { λ r. ⌜ r ≡ found address (entries (now (self .entry))) ⌝ }
     {
         match self.leaf_place(address) {

@@ -41,8 +41,7 @@ impl EntryList {
 
     // The entries of a page.
     pub fn of_page(bytes: &[u8; 128]) -> EntryList
-        ensures is { λ r. ⌜ entries r ≡ entries-of (now (bytes .entry)) ⌝ }
-        ensures few { λ r. ⌜ length (entries r) ≤ 10 ⌝ }
+        ensures { λ r. ⌜ entries r ≡ entries-of (now (bytes .entry)) ⌝ }
     {
         let mut items = [Entry { key: 0, value: 0 }; 11];
         let len = load(bytes, &mut items);

@@ -1,0 +1,12 @@
+pub mod Keeps
+pub mod Resets
+pub mod Headers
+pub mod Openings
+pub mod Changing
+pub mod Freeing
+pub mod Changed
+pub mod Tallying
+pub mod Withdrawing
+pub mod Settling
+pub mod Heading
+pub mod Opened

@@ -1,0 +1,11 @@
+pub mod Model
+pub mod Keeping
+pub mod View
+pub mod Freed
+pub mod Sealing
+pub mod Settled
+pub mod Head
+pub mod Located
+pub mod Changes
+pub mod Opening
+pub mod Steps

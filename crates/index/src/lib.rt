@@ -1,0 +1,11 @@
+// The event index: events as points with counts, in a copy-on-write tree of pages.
+pub mod calls;
+mod freed;
+mod head;
+pub mod index;
+mod located;
+pub mod open;
+mod sealing;
+mod settled;
+pub mod tally;
+pub mod withdraw;

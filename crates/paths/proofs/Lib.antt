@@ -1,0 +1,13 @@
+pub mod PathsAccesses
+pub mod PathsWriting
+pub mod PathsMemory
+pub mod PathsReading
+pub mod PathsKept
+pub mod TallyReading
+pub mod TallyKept
+pub mod WithdrawEditing
+pub mod WithdrawWriting
+pub mod WithdrawClimbs
+pub mod WithdrawPaths
+pub mod WithdrawAlone
+pub mod WithdrawKept

@@ -1,0 +1,7 @@
+// Lodge, withdraw and tally: reading and copying the path from the root to the leaf that an address belongs to.
+pub mod copied;
+pub mod left;
+mod page;
+pub mod tally;
+pub mod withdraw;
+mod withdraw_edits;

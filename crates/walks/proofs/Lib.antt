@@ -1,0 +1,5 @@
+mod ChildVisits
+mod Judging
+mod ScanLoop
+mod ScanEnd
+pub mod AfterScan
