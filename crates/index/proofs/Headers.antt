@@ -47,7 +47,7 @@ level-above n zero at = absurd (level-some n at)
 level-above n (suc h) at = omega arith
 
 module _ (o : Order) (law : Lawful o) (m : Contents) (l : ℕ) (small : l ≤ 1024) where
-  file-numbers : (h total : ℕ) (t : Held Node) → Sound-of m l h total (top o) t → Within 65535 (events-of t) →
+  pub file-numbers : (h total : ℕ) (t : Held Node) → Sound-of m l h total (top o) t → Within 65535 (events-of t) →
       (root-of t < 2 ^ 16) × (total < 2 ^ 32) × All-or-none h (root-of t) total
   file-numbers h total none sound within = (omega arith, omega (arith, sound .1), inl (sound .0, refl, sound .1))
   file-numbers h total (held n) sound within =

@@ -5,8 +5,10 @@ pub mod Openings
 pub mod Changing
 pub mod Freeing
 pub mod Changed
+pub mod Copying
 pub mod Tallying
 pub mod Withdrawing
 pub mod Settling
 pub mod Heading
 pub mod Opened
+pub mod Lodging

@@ -52,7 +52,7 @@ open-file o m h r t free f holds = record {
   height-is = holds .agrees .0;
 }
 
-read-pages : (m m′ : Image) (l p a : ℕ) (f : Fault) → Misread m l p a f m′ → m′ .pages ≡ m .pages
+pub read-pages : (m m′ : Image) (l p a : ℕ) (f : Fault) → Misread m l p a f m′ → m′ .pages ≡ m .pages
 read-pages m m′ l p a f (read-refused d x told at paid why e) = ap (λ (i : Image). i .pages) e
 read-pages m m′ l p a f (broken d q v r told at paid why e) = ap (λ (i : Image). i .pages) e
 

@@ -35,17 +35,13 @@ use Rattle.index.specs.Changes.{Changes, tree-state, known-of}
 use Rattle.index.specs.Steps.{Step, Goes, Does}
 use Rattle.index.specs.Steps.Does.{withdrawn}
 use Rattle.index.proofs.Changing.{knows-file, tree-kept}
-use Rattle.index.proofs.Changed.{Made-copy, ended, not-copied}
+use Rattle.index.proofs.Changed.{Made-copy}
+use Rattle.index.proofs.Copying.{above-one, refused-step, copied-step}
 use Rattle.index.specs.View.{known-if}
 use Rattle.index.specs.Located.{Located}
 use Rattle.index.specs.Sealing.{Seals}
-use Rattle.index.proofs.Settling.{After, seal-size}
-use Rattle.index.proofs.Tallying.{open-file, open-steps, remembers}
-
--- page 1 is none of the free pages
-above-one : (l : ℕ) (xs : List ℕ) → All (λ p. (2 ≤ p) × (p ≤ l)) xs → Absent 1 xs
-above-one l [] all = tt
-above-one l (x ∷ xs) all = ((λ e. omega (arith, all .0 .0)), above-one l xs (all .1))
+use Rattle.index.proofs.Settling.{After}
+use Rattle.index.proofs.Tallying.{open-file}
 
 lower : (t : Held Node) (h a : ℕ) → height-withdrawn t h a ≤ h
 lower none h a = omega arith
@@ -78,48 +74,34 @@ module _ (o : Order) (m : Image) (h r t : ℕ) (free : List ℕ) (f : Filed) (ho
         counts = greatest-law (contents m) (limit m) (f .total) (top o) st a 65535 kept-tree (holds .counts) .1;
       }
 
-  -- the rule that a withdrawal follows
-  follows : (x : List ℕ) → InSpaceOf o x → (a : Answer) (u : State) (v : Content) →
-      Changes o (state m (knows h r t free)) f (Withdraws m (tree-state f free) (o .address x)) (withdraw-step (tree-state f free) (o .address x) .next) (f .total - 1) a u v →
-      Does o (filed f) (state m (knows h r t free)) a u v (withdraws x)
-  follows x inside a u v changes = withdrawn f free refl (knows-file (limit m) h r t free f (holds .agrees)) inside changes
+module _ (o : Order) (m m′ : Image) (b : Bool) (h r t : ℕ) (free x : List ℕ) (a : ℕ) (at : Located o (known-if b h r t free) x (Ok a)) where
+  rule : (f : Filed) → Holds o (state m (knows h r t free)) f → (ans : Answer) (u : State) (v : Content) →
+      Changes o (state m (knows h r t free)) f (Withdraws m (tree-state f free) (o .address x)) (withdraw-step (tree-state f free) (o .address x) .next) (f .total - 1) ans u v →
+      Does o (filed f) (state m (knows h r t free)) ans u v (withdraws x)
+  rule f holds ans u v changes = withdrawn f free refl (knows-file (limit m) h r t free f (holds .agrees)) (at .1) changes
 
-  -- refused before or during the copy
-  pub refused-goes : (x : List ℕ) (a : ℕ) (fault : Fault) (m′ : Image) → InSpaceOf o x → a ≡ o .address x → Withdraw-is m r h a free (Err fault) m′ →
-      Goes o (filed f) (state m (knows h r t free)) (refusal fault) (state m′ (knows h r t free)) (withdraws x)
-  refused-goes x a fault m′ inside e is =
-      let st = tree-state f free in
+  -- what the copy is of a tree on file
+  of-file : (res : Result Copied Fault) → Withdraw-is m r h a free res m′ → (f : Filed) → Holds o (state m (knows h r t free)) f → Withdraws m (tree-state f free) (o .address x) res m′
+  of-file res is f holds =
       let low : h ≤ 6 = subst (λ (n : ℕ). n ≤ 6) (sym (holds .agrees .0)) (holds .low) in
-      let w = subst (λ (y : ℕ). Withdraws m st y (Err fault) m′) e (is .kept (limit m) (f .total) (top o) st (open-file o m h r t free f holds) refl low) in
-      not-copied o m (knows h r t free) f free holds (withdraw-step st (o .address x) .next) (f .total - 1) (withdraws x) (Withdraws m st (o .address x)) (follows x inside)
-      fault m′ w (page-one m′ (is .alone)) (is .alone .size) (refused-law m m′ (limit m) (f .total) (top o) st (o .address x) fault kept-tree (holds .low) w)
+      subst (λ (y : ℕ). Withdraws m (tree-state f free) y res m′) (at .2) (is .kept (limit m) (f .total) (top o) (tree-state f free) (open-file o m h r t free f holds) refl low)
 
-  -- copied, and the header written or not
-  pub copied-goes : (x : List ℕ) (a : ℕ) (g : Copied) (m′ m″ : Image) (free′ : List ℕ) (total : ℕ) (res : Result (Unit {0}) Fault) (k′ : Known) → InSpaceOf o x → a ≡ o .address x →
-      Withdraw-is m r h a free (Ok g) m′ → total ≡ t - 1 → Seals o m′ free h (g .height) (g .root) total (g .used) (g .path) res m″ free′ →
-      After res (knows h r t free) g total free′ k′ → Goes o (filed f) (state m (knows h r t free)) (told res) (state m″ k′) (withdraws x)
-  copied-goes x a g m′ m″ free′ total res k′ inside e is et seals after =
-      let st = tree-state f free in
-      let low : h ≤ 6 = subst (λ (n : ℕ). n ≤ 6) (sym (holds .agrees .0)) (holds .low) in
-      let w = subst (λ (y : ℕ). Withdraws m st y (Ok g) m′) e (is .kept (limit m) (f .total) (top o) st (open-file o m h r t free f holds) refl low) in
-      let made = made-withdrawal (o .address x) g m′ w (is .alone) in
-      let total-is : total ≡ f .total - 1 = et ∙ ap (λ (n : ℕ). n - 1) (holds .agrees .2) in
-      let seals′ = subst (λ (n : ℕ). Seals o m′ free (f .height) (g .height) (g .root) n (g .used) (g .path) res m″ free′) total-is
-      (subst (λ (n : ℕ). Seals o m′ free n (g .height) (g .root) total (g .used) (g .path) res m″ free′) (holds .agrees .0) seals) in
-      ended o m (knows h r t free) f free holds (withdraw-step st (o .address x) .next) (f .total - 1) (withdraws x) (Withdraws m st (o .address x)) (follows x inside)
-      g m′ m″ free′ res k′ made w seals′ (subst (λ (n : ℕ). After res (knows h r t free) g n free′ k′) total-is after)
+  pub withdraw-refused : (fault : Fault) → Withdraw-is m r h a free (Err fault) m′ → Step o (state m (known-if b h r t free)) (refusal fault) (state m′ (known-if b h r t free)) (withdraws x)
+  withdraw-refused fault is =
+      refused-step o m b h r t free (withdraws x) (at .0) (λ f. Withdraws m (tree-state f free) (o .address x)) (λ f. withdraw-step (tree-state f free) (o .address x) .next) (λ f. f .total - 1) rule
+      fault m′ (is .alone .size) (λ f holds.
+      let w = of-file (Err fault) is f holds in (
+        w,
+        page-one o m h r t free f holds m′ (is .alone),
+        refused-law m m′ (limit m) (f .total) (top o) (tree-state f free) (o .address x) fault (kept-tree o m h r t free f holds) (holds .low) w,
+      ))
 
--- refused before or during the copy; and copied
-pub withdraw-refused : (o : Order) (m m′ : Image) (b : Bool) (h r t : ℕ) (free x : List ℕ) (a : ℕ) (fault : Fault) → Located o (known-if b h r t free) x (Ok a) → Withdraw-is m r h a free (Err fault) m′ →
-    Step o (state m (known-if b h r t free)) (refusal fault) (state m′ (known-if b h r t free)) (withdraws x)
-withdraw-refused o m m′ b h r t free x a fault at is =
-    subst (λ (k : Known). Step o (state m k) (refusal fault) (state m′ k) (withdraws x)) (remembers b h r t free (at .0))
-    (open-steps o m m′ h r t free (refusal fault) (knows h r t free) (withdraws x) (is .alone .size) (λ f holds. refused-goes o m h r t free f holds x a fault m′ (at .1) (at .2) is))
-
-pub withdraw-copied : (o : Order) (m m′ m″ : Image) (b : Bool) (h r t : ℕ) (free free′ x : List ℕ) (a total : ℕ) (g : Copied) (res : Result (Unit {0}) Fault) (k′ : Known) →
-    Located o (known-if b h r t free) x (Ok a) → Withdraw-is m r h a free (Ok g) m′ → total ≡ t - 1 → Seals o m′ free h (g .height) (g .root) total (g .used) (g .path) res m″ free′ →
-    After res (knows h r t free) g total free′ k′ → Step o (state m (known-if b h r t free)) (told res) (state m″ k′) (withdraws x)
-withdraw-copied o m m′ m″ b h r t free free′ x a total g res k′ at is et seals after =
-    subst (λ (k : Known). Step o (state m k) (told res) (state m″ k′) (withdraws x)) (remembers b h r t free (at .0))
-    (open-steps o m m″ h r t free (told res) k′ (withdraws x) (seal-size o m′ m″ free free′ (g .path) h (g .height) (g .root) total (g .used) res seals ∙ is .alone .size)
-    (λ f holds. copied-goes o m h r t free f holds x a g m′ m″ free′ total res k′ (at .1) (at .2) is et seals after))
+  pub withdraw-copied : (g : Copied) (m″ : Image) (free′ : List ℕ) (sum : ℕ) (res : Result (Unit {0}) Fault) (k′ : Known) → Withdraw-is m r h a free (Ok g) m′ → sum ≡ t - 1 →
+      Seals o m′ free h (g .height) (g .root) sum (g .used) (g .path) res m″ free′ → After res (knows h r t free) g sum free′ k′ →
+      Step o (state m (known-if b h r t free)) (told res) (state m″ k′) (withdraws x)
+  withdraw-copied g m″ free′ sum res k′ is es seals after =
+      copied-step o m b h r t free (withdraws x) (at .0) (λ f. Withdraws m (tree-state f free) (o .address x)) (λ f. withdraw-step (tree-state f free) (o .address x) .next) (λ f. f .total - 1) rule
+      g m′ m″ free′ sum res k′ (is .alone .size) (λ f holds.
+      let w = of-file (Ok g) is f holds in
+      (w, made-withdrawal o m h r t free f holds (o .address x) g m′ w (is .alone), es ∙ ap (λ (n : ℕ). n - 1) (holds .agrees .2)))
+      seals after

@@ -1,7 +1,7 @@
 -- What each call does: one relation for all of them. The contract of a call is a step; histories are lists of steps.
 use mathlib.Core.Path.{_≡_}
 use mathlib.Core.List.{List, [], _∷_}
-use Prim.Native.Nat.{ℕ, _-_, _≤_, _<_}
+use Prim.Native.Nat.{ℕ, suc, _-_, _≤_, _<_}
 use lib.ListN.{length, getD}
 use Rattle.pages.specs.Image.{Image, at, written, granted, spent}
 use Rattle.layout.specs.declared.header.Header.{Header}
@@ -11,7 +11,8 @@ use Rattle.std.specs.declared.result.Result.{Result}
 use Rattle.faults.specs.declared.fault.Fault.{Fault}
 use Rattle.paths.specs.TallyRules.{Tallies}
 use Rattle.paths.specs.WithdrawRules.{Withdraws}
-use Rattle.tree.specs.CopyMoves.{withdraw-step}
+use Rattle.paths.specs.LodgeKept.{Lodges}
+use Rattle.tree.specs.CopyMoves.{lodge-step, withdraw-step}
 use Rattle.tree.specs.Tree.Held.{none}
 use Rattle.tree.specs.CopyLaws.{usable, unused, pages-of, root-of}
 use Rattle.tree.specs.Scan.{uncharged}
@@ -66,6 +67,10 @@ pub data Does (o : Order) (c : Content) (s : State) (a : Answer) (u : State) (v 
   -- tally: the count at the point's address; nothing changes but the charge
   tallied : {x : List ℕ} (f : Filed) (free : List ℕ) (r : Result ℕ Fault) (m : Image) → c ≡ filed f → s .known ≡ known-of (tree-state f free) (f .total) → InSpaceOf o x
       → Tallies (s .image) (tree-state f free) (o .address x) r m → a ≡ told-count r → u ≡ state m (s .known) → v ≡ c → Does o c s a u v (tallies x)
+  -- lodge: one event more at the point's address
+  lodged : {x : List ℕ} (f : Filed) (free : List ℕ) → c ≡ filed f → s .known ≡ known-of (tree-state f free) (f .total) → InSpaceOf o x
+      → Changes o s f (Lodges (s .image) (tree-state f free) (o .address x)) (lodge-step (tree-state f free) (o .address x) .next) (suc (f .total)) a u v
+      → Does o c s a u v (lodges x)
   -- withdraw: one event less at the point's address
   withdrawn : {x : List ℕ} (f : Filed) (free : List ℕ) → c ≡ filed f → s .known ≡ known-of (tree-state f free) (f .total) → InSpaceOf o x
       → Changes o s f (Withdraws (s .image) (tree-state f free) (o .address x)) (withdraw-step (tree-state f free) (o .address x) .next) (f .total - 1) a u v

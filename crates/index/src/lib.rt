@@ -4,6 +4,7 @@ mod freed;
 mod head;
 pub mod index;
 mod located;
+pub mod lodge;
 pub mod open;
 mod sealing;
 mod settled;

@@ -5,6 +5,13 @@ pub mod PathsReading
 pub mod PathsKept
 pub mod TallyReading
 pub mod TallyKept
+pub mod LodgePlacing
+pub mod LodgeEdits
+pub mod LodgeClimbing
+pub mod LodgeTracing
+pub mod LodgeRooting
+pub mod PathsRunning
+pub mod LodgeKeeping
 pub mod WithdrawEditing
 pub mod WithdrawWriting
 pub mod WithdrawClimbs

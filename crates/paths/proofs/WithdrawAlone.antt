@@ -56,15 +56,15 @@ thread (suc (suc l)) m p a free h =
     place-thread (suc (suc l)) (clear (m p .entries) a (k .part)) (k .writes) (k .rest) free
     (omega (arith, thread-length (k .writes) (k .rest) free t, writes-law (suc l) m (pick (m p .entries) a) a free .withdraws)) t
 
-front-of : (P : ℕ → Type 0) (xs ys : List ℕ) → All P (xs ++ ys) → All P xs
+pub front-of : (P : ℕ → Type 0) (xs ys : List ℕ) → All P (xs ++ ys) → All P xs
 front-of P [] ys t = tt
 front-of P (x ∷ xs) ys t = (t .0, front-of P xs ys (t .1))
 
-written-append : (xs ys : List Write) → tree.written (xs ++ ys) ≡ tree.written xs ++ tree.written ys
+pub written-append : (xs ys : List Write) → tree.written (xs ++ ys) ≡ tree.written xs ++ tree.written ys
 written-append [] ys = refl
 written-append (x ∷ xs) ys = ap (λ (z : List ℕ). x .page ∷ z) (written-append xs ys)
 
-stays : (ws : List Write) (m : Image) (p : ℕ) → Accepts ws m → 1 ≤ p → Absent p (tree.written ws) → at (stored ws m) p ≡ at m p
+pub stays : (ws : List Write) (m : Image) (p : ℕ) → Accepts ws m → 1 ≤ p → Absent p (tree.written ws) → at (stored ws m) p ≡ at m p
 stays [] m p a o n = refl
 stays (w ∷ ws) m p a o n =
     stays ws (written m (w .page) (encoded (w .says))) p (a .3) o (n .1)

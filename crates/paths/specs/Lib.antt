@@ -2,6 +2,10 @@ pub mod PathsWrites
 pub mod PathsPages
 pub mod PathsReading
 pub mod TallyRules
+pub mod LodgePlaces
+pub mod LodgeRules
+pub mod LodgeTree
+pub mod LodgeKept
 pub mod WithdrawEdits
 pub mod Withdrawals
 pub mod WithdrawRules

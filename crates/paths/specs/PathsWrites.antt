@@ -2,6 +2,7 @@
 use mathlib.Core.Path.{_≡_}
 use mathlib.Core.List.{List, [], _∷_, _++_}
 use Prim.Native.Nat.{ℕ, _-_, _<_}
+use lib.ListN.{length}
 use Rattle.pages.specs.declared.fault.StoreFault.{StoreFault}
 use Rattle.pages.specs.declared.fault.StoreFault.the-variants.{Absent, Uncharged}
 use Rattle.pages.specs.Image.{Image, Has, Lacks, written}
@@ -56,3 +57,15 @@ pub record Unwrites (ws : List Write) (m : Image) (f : Fault) (m′ : Image) : T
   pub access : Access
   pub told : f ≡ unwritten access
   pub cut : Cut ws m access m′
+
+-- Where every page of the writes exists, only the charge can break them off: at the write that it no longer carries.
+pub record Writes-run-out (ws : List Write) (m : Image) (x : Access) (m′ : Image) : Type 0 where
+  pub done : List Write
+  pub next : Write
+  pub rest : List Write
+  pub writes : ws ≡ done ++ (next ∷ rest)
+  pub many : length done ≡ m .charge
+  pub page : x .page ≡ next .page
+  pub level : x .level ≡ next .says .level
+  pub fault : x .fault ≡ Uncharged
+  pub began : Wrote done m m′

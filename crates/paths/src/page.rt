@@ -13,6 +13,7 @@ use faults::access::put;
 use faults::fault::Fault;
 use faults::fault::FaultFromRead;
 use faults::fault::FaultFromWrite;
+use layout::entry::Entry;
 use layout::list::EntryList;
 use layout::reader::PageReader;
 use layout::writer::write_page;
@@ -49,6 +50,21 @@ pub(crate) fn read_page<S: PageStore>(
 }
 
 // Writes a page of these entries.
+pub(crate) fn write_items<S: PageStore>(
+    store: &mut S,
+    page: u16,
+    level: u8,
+    items: &[Entry],
+) -> Result<(), Fault>
+    requires { ⌜ length (now items) ≤ 10 ⌝ }
+    ensures { λ r. ⌜ Writes-page (meaning (now (store .entry))) level page (now (items .entry)) r (meaning (now (store .exit))) ⌝ }
+{
+    let mut bytes = [0; 128];
+    let _ = write_page(&mut bytes, level, page, items);
+    put(store, page, level, &bytes)?;
+    Ok(())
+}
+
 pub(crate) fn write_entries<S: PageStore>(
     store: &mut S,
     page: u16,
@@ -58,10 +74,7 @@ pub(crate) fn write_entries<S: PageStore>(
     requires { ⌜ length (entries (now list)) ≤ 10 ⌝ }
     ensures { λ r. ⌜ Writes-page (meaning (now (store .entry))) level page (entries (now (list .entry))) r (meaning (now (store .exit))) ⌝ }
 {
-    let mut bytes = [0; 128];
-    let _ = write_page(&mut bytes, level, page, list.as_slice());
-    put(store, page, level, &bytes)?;
-    Ok(())
+    write_items(store, page, level, list.as_slice())
 }
 
 // The free page at a place, from the front.

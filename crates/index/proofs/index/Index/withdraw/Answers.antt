@@ -23,7 +23,7 @@ returns-in-Err-withdraw g c =
     let mean = g .S·PageStore .meaning in
     record {
       step = withdraw-refused (g .O·PointOrder .meaning (x .order)) (mean (x .store)) (mean (c .withdraw .last .store)) (x .«is_open») (x .height) (x .root) (x .total) (numbers (x .free))
-          (c .args .x .coords) (c .in-Ok .address) (c .in-Err-withdraw .fault) (c .in-Ok .ensures tt) (c .in-Err-withdraw .ensures tt);
+          (c .args .x .coords) (c .in-Ok .address) (c .in-Ok .ensures tt) (c .in-Err-withdraw .fault) (c .in-Err-withdraw .ensures tt);
       order = refl;
     }
 
@@ -34,9 +34,9 @@ returns g c =
     let mean = g .S·PageStore .meaning in
     let o = g .O·PointOrder .meaning (x .order) in
     record {
-      step = withdraw-copied o (mean (x .store)) (mean (c .withdraw .last .store)) (mean (y .store)) (x .«is_open») (x .height) (x .root) (x .total) (numbers (x .free)) (numbers (y .free))
-          (c .args .x .coords) (c .in-Ok .address) (c .saturating-sub-total .result) (c .in-Ok-withdraw .copied) (c .settle .result) (view mean y .known) (c .in-Ok .ensures tt) (c .in-Ok-withdraw .ensures tt)
-          (c .saturating-sub-total .ensures) (c .settle .ensures .seals)
+      step = withdraw-copied o (mean (x .store)) (mean (c .withdraw .last .store)) (x .«is_open») (x .height) (x .root) (x .total) (numbers (x .free))
+          (c .args .x .coords) (c .in-Ok .address) (c .in-Ok .ensures tt) (c .in-Ok-withdraw .copied) (mean (y .store)) (numbers (y .free)) (c .saturating-sub-total .result) (c .settle .result) (view mean y .known)
+          (c .in-Ok-withdraw .ensures tt) (c .saturating-sub-total .ensures) (c .settle .ensures .seals)
           (after-known o mean _ y (c .in-Ok-withdraw .copied) (c .saturating-sub-total .result) (c .settle .result) (c .settle .ensures) (c .in-Ok .ensures tt .0));
       order = c .settle .ensures .order;
     }

@@ -1,6 +1,6 @@
 use Rattle.std.proofs.shelf.Results.{err-from-errBy}
 use Rattle.paths.proofs.PathsAccesses.{write-broken}
-use Rattle.paths.proofs.page.write_entries.Needs as need
+use Rattle.paths.proofs.page.write_items.Needs as need
 
 pub returns-in-Break-put : need.returns-in-Break-put
 returns-in-Break-put g c =
