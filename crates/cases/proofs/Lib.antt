@@ -1,2 +1,4 @@
 pub mod Boxes
 pub mod Eight
+pub mod Accepting
+pub mod Branches

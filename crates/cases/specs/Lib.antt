@@ -1,1 +1,2 @@
 pub mod EightByEight
+pub mod Branch

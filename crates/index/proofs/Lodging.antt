@@ -6,7 +6,7 @@ use mathlib.Core.Bool.{Bool}
 use Prim.Native.Nat.{ℕ, suc, _+_, _-_, _≤_, _<_, min}
 use native.Mathlib.Numerals.{add-one}
 use native.Mathlib.Omega.{arith}
-use lib.ListN.{length, drop, take}
+use lib.ListN.{length, drop, take, take-append-drop}
 use lib.Seq.{getD-set-other}
 use Rattle.std.specs.declared.result.Result.{Result}
 use Rattle.std.specs.declared.result.Result.the-variants.{Ok, Err}
@@ -29,10 +29,11 @@ use Rattle.paths.specs.LodgeKept.{Lodges, Lodge-done, Lodge-is}
 use Rattle.paths.specs.LodgeRules.{Unlodged}
 use Rattle.paths.specs.LodgeRules.Unlodged.{denied, cut}
 use Rattle.paths.specs.LodgeTree.{Lodged-by}
-use Rattle.paths.proofs.PathsMemory.{kept-after, kept-read}
-use Rattle.paths.proofs.WithdrawAlone.{stored-length, stays, front-of, written-append}
+use Rattle.paths.proofs.PathsMemory.{kept-after}
+use Rattle.paths.specs.PathsCopies.{Leaves-alone}
+use Rattle.paths.proofs.PathsCopying.{wrote-alone, read-alone, misread-alone, append-none, stored-length}
+use Rattle.paths.proofs.LodgeKeeping.{lodge-keeps, lodge-keeps-old, lodge-frees}
 use Rattle.std.proofs.shelf.Tests.{cases-lt}
-use Rattle.std.proofs.shelf.Elements.{all-take}
 use Rattle.index.specs.Model.{Call, Answer, State, Known, state, limit, refusal, told}
 use Rattle.index.specs.Model.Known.{knows}
 use Rattle.index.specs.Model.Call.{lodges}
@@ -49,16 +50,7 @@ use Rattle.index.proofs.Headers.{file-numbers}
 use Rattle.index.proofs.Changed.{Made-copy}
 use Rattle.index.proofs.Copying.{above-one, refused-step, copied-step}
 use Rattle.index.proofs.Settling.{After}
-use Rattle.index.proofs.Tallying.{open-file, read-pages}
-
--- writes to pages from 2 on leave page 1
-page-after : (l : ℕ) (ws done rest : List Write) (m m′ : Image) (h n : ℕ) (free : List ℕ) → All (λ p. (2 ≤ p) × (p ≤ l)) free → pages-written ws ≡ take n free → ws ≡ done ++ rest →
-    Wrote done (after-reads m h) m′ → at m′ 1 ≡ at m 1
-page-after l ws done rest m m′ h n free range e ew wrote =
-    let P : ℕ → Type 0 = λ p. (2 ≤ p) × (p ≤ l) in
-    let all : All P (pages-written done ++ pages-written rest) =
-    subst (λ (xs : List ℕ). All P xs) (sym e ∙ ap pages-written ew ∙ written-append done rest) (all-take P n free range) in
-    ap (λ (i : Image). at i 1) (wrote .image) ∙ stays done (after-reads m h) 1 (wrote .accepts) (omega arith) (above-one l (pages-written done) (front-of P (pages-written done) (pages-written rest) all))
+use Rattle.index.proofs.Tallying.{open-file}
 
 module _ (o : Order) (m : Image) (h r t : ℕ) (free : List ℕ) (f : Filed) (holds : Holds o (state m (knows h r t free)) f) (a : ℕ) (inside : a ≤ top o) where
   kept-tree : Tree-kept (contents m) (limit m) (f .total) (top o) (tree-state f free)
@@ -71,40 +63,41 @@ module _ (o : Order) (m : Image) (h r t : ℕ) (free : List ℕ) (f : Filed) (ho
       Copies (contents m) (limit m) (f .total) (suc (f .total)) (top o) (tree-state f free) a (lodge-takes (f .tree) (f .height) a) (lodge-step (tree-state f free) a)
   copies room = lodge-law (contents m) (limit m) (f .total) (top o) (tree-state f free) a kept-tree inside room .1
 
+  -- a beginning of the copy's writes leaves page 1 and the number of pages
+  alone : (done rest : List Write) (m′ : Image) → lodge-takes (f .tree) (f .height) a + 6 ≤ length free → lodge-step (tree-state f free) a .writes ≡ done ++ rest →
+      Wrote done (after-reads m (f .height)) m′ → Leaves-alone m free m′
+  alone done rest m′ room e wrote =
+      let n = lodge-takes (f .tree) (f .height) a in
+      wrote-alone (lodge-step (tree-state f free) a .writes) done rest m m′ (f .height) free (drop n free)
+      (ap (λ (xs : List ℕ). xs ++ drop n free) (copies room .wrote) ∙ take-append-drop n free) e wrote
+
+  page-one : (m′ : Image) → Leaves-alone m free m′ → at m′ 1 ≡ at m 1
+  page-one m′ same = same .others 1 (omega arith) (above-one (limit m) free free-range)
+
   made-lodging : (g : Copied) (m′ : Image) → Lodges m (tree-state f free) a (Ok g) m′ → Made-copy o m f free (lodge-step (tree-state f free) a .next) (suc (f .total)) g m′
   made-lodging g m′ w =
       let st = tree-state f free in
       let ws = lodge-step st a .writes in
-      let c = copies (w .allowed .room) in
-      let used = sym (w .used ∙ c .took) in
+      let same = alone ws [] m′ (w .allowed .room) (append-none ws) (w .wrote) in
       record {
         root = w .root;
         height = w .height;
-        freed = c .freed ∙ ap₂ (λ (xs ys : List ℕ). xs ++ ys) (sym (w .path)) (ap (λ (n : ℕ). drop n free) used);
-        kept = kept-after ws m m′ (f .height) (limit m) (suc (f .total)) (top o) (lodge-step st a .next) (w .wrote) (c .kept);
-        old = kept-after ws m m′ (f .height) (limit m) (f .total) (top o) st (w .wrote) (c .old ws [] (sym (append-nil ws)));
-        page = page-after (limit m) ws ws [] m m′ (f .height) _ free free-range (c .wrote) (sym (append-nil ws)) (w .wrote);
-        size = ap (λ (i : Image). length (i .pages)) (w .wrote .image) ∙ stored-length ws (after-reads m (f .height));
+        freed = lodge-frees m m′ (limit m) (f .total) (top o) st a g kept-tree inside w;
+        kept = lodge-keeps m m′ (limit m) (f .total) (top o) st a g kept-tree inside w;
+        old = kept-after ws m m′ (f .height) (limit m) (f .total) (top o) st (w .wrote) (copies (w .allowed .room) .old ws [] (append-none ws));
+        page = page-one m′ same;
+        size = same .size;
         low = w .allowed .height-low;
         counts = greatest-law (contents m) (limit m) (f .total) (top o) st a 65535 kept-tree (holds .counts) .0 (w .allowed .count-low);
       }
 
-  -- after reads alone
-  reads-only : (m′ : Image) (n : ℕ) → m′ ≡ after-reads m n → (at m′ 1 ≡ at m 1) × Tree-kept (contents m′) (limit m) (f .total) (top o) (tree-state f free)
-  reads-only m′ n e = (ap (λ (i : Image). at i 1) e, kept-read m m′ n (limit m) (f .total) (top o) (tree-state f free) e kept-tree)
-
-  -- a refused lodge keeps the old tree
-  refused-lodging : (fault : Fault) (m′ : Image) → Lodges m (tree-state f free) a (Err fault) m′ → (at m′ 1 ≡ at m 1) × Tree-kept (contents m′) (limit m) (f .total) (top o) (tree-state f free)
-  refused-lodging (Unread x) m′ w = reads-only m′ (m .charge) (w .spent)
-  refused-lodging CountFull m′ w = reads-only m′ (f .height) (w .2)
-  refused-lodging HeightFull m′ w = reads-only m′ (f .height) (w .3)
-  refused-lodging Room m′ w = reads-only m′ (f .height) (w .4)
-  refused-lodging (Unwritten x) m′ (paid, allowed, run) =
-      let st = tree-state f free in
-      let c = copies (allowed .room) in (
-        page-after (limit m) (lodge-step st a .writes) (run .done) (run .next ∷ run .rest) m m′ (f .height) _ free free-range (c .wrote) (run .writes) (run .began),
-        kept-after (run .done) m m′ (f .height) (limit m) (f .total) (top o) st (run .began) (c .old (run .done) (run .next ∷ run .rest) (run .writes)),
-      )
+  -- a refused lodge leaves page 1
+  refused-lodging : (fault : Fault) (m′ : Image) → Lodges m (tree-state f free) a (Err fault) m′ → at m′ 1 ≡ at m 1
+  refused-lodging (Unread x) m′ w = page-one m′ (read-alone m m′ (m .charge) free (w .spent))
+  refused-lodging CountFull m′ w = page-one m′ (read-alone m m′ (f .height) free (w .2))
+  refused-lodging HeightFull m′ w = page-one m′ (read-alone m m′ (f .height) free (w .3))
+  refused-lodging Room m′ w = page-one m′ (read-alone m m′ (f .height) free (w .4))
+  refused-lodging (Unwritten x) m′ (paid, allowed, run) = page-one m′ (alone (run .done) (run .next ∷ run .rest) m′ (allowed .room) (run .writes) (run .began))
   refused-lodging Shut m′ w = absurd w
   refused-lodging Outside m′ w = absurd w
   refused-lodging Work m′ w = absurd w
@@ -121,7 +114,7 @@ unlodged-size m m′ h count height takes n ws f (cut allowed u) = ap (λ (i : I
 
 lodged-size : (m m′ : Image) (h p a : ℕ) (free : List ℕ) (res : Result Copied Fault) → Lodged-by m h p a free res m′ → length (m′ .pages) ≡ length (m .pages)
 lodged-size m m′ h p a free (Ok g) l = ap (λ (i : Image). length (i .pages)) (l .3 .image) ∙ stored-length (lodge-by h (contents m) p a free .writes) (after-reads m h)
-lodged-size m m′ h p a free (Err f) (inl mis) = ap length (read-pages m m′ h p a f mis)
+lodged-size m m′ h p a free (Err f) (inl mis) = misread-alone m m′ h p a free f mis .size
 lodged-size m m′ h p a free (Err f) (inr un) = unlodged-size m m′ h _ _ _ _ _ f (un .1)
 
 lodge-size : (m m′ : Image) (h p a : ℕ) (free : List ℕ) (res : Result Copied Fault) → Lodge-is m p h a free res m′ → length (m′ .pages) ≡ length (m .pages)
@@ -149,9 +142,11 @@ module _ (o : Order) (law : Lawful o) (m m′ : Image) (b : Bool) (h r t : ℕ) 
   lodge-refused fault is =
       refused-step o m b h r t free (lodges x) (at .0) (λ f. Lodges m (tree-state f free) (o .address x)) (λ f. lodge-step (tree-state f free) (o .address x) .next) (λ f. suc (f .total)) rule
       fault m′ (lodge-size m m′ h r a free (Err fault) is) (λ f holds.
-      let w = of-file (Err fault) is f holds in
-      let kept = refused-lodging o m h r t free f holds (o .address x) in-range fault m′ w in
-      (w, kept .0, kept .1))
+      let w = of-file (Err fault) is f holds in (
+        w,
+        refused-lodging o m h r t free f holds (o .address x) in-range fault m′ w,
+        lodge-keeps-old m m′ (limit m) (f .total) (top o) (tree-state f free) (o .address x) fault (kept-tree o m h r t free f holds (o .address x) in-range) in-range w,
+      ))
 
   pub lodge-copied : (g : Copied) (m″ : Image) (free′ : List ℕ) (sum : ℕ) (res : Result (Unit {0}) Fault) (k′ : Known) → Lodge-is m r h a free (Ok g) m′ →
       (t + 1 < 4294967296 → sum ≡ t + 1) →

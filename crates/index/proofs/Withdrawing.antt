@@ -22,9 +22,11 @@ use Rattle.faults.specs.Accesses.{contents}
 use Rattle.faults.specs.declared.fault.Fault.{Fault}
 use Rattle.paths.specs.declared.copied.Copied.{Copied}
 use Rattle.paths.specs.PathsReading.{back}
-use Rattle.paths.specs.WithdrawRules.{Withdraws, Withdraw-is, Leaves-alone}
+use Rattle.paths.specs.PathsCopies.{Leaves-alone}
+use Rattle.paths.specs.WithdrawRules.{Withdraws, Withdraw-is}
 use Rattle.paths.proofs.PathsMemory.{kept-after}
-use Rattle.paths.proofs.WithdrawKept.{next-law, refused-law}
+use Rattle.paths.proofs.PathsCopying.{append-none}
+use Rattle.paths.proofs.WithdrawKept.{withdraw-keeps, withdraw-keeps-old, withdraw-frees}
 use Rattle.index.specs.Model.{Call, Answer, State, Known, state, limit, refusal, told}
 use Rattle.index.specs.Model.Answer.{accepted}
 use Rattle.index.specs.Model.Known.{knows}
@@ -58,16 +60,14 @@ module _ (o : Order) (m : Image) (h r t : ℕ) (free : List ℕ) (f : Filed) (ho
       Made-copy o m f free (withdraw-step (tree-state f free) a .next) (f .total - 1) g m′
   made-withdrawal a g m′ w alone =
       let st = tree-state f free in
-      let law = withdraw-law (contents m) (limit m) (f .total) (top o) st a kept-tree (holds .low) (w .0) in
-      let copies = law .2 in
-      let used = sym (w .2 .used ∙ copies .took) in
+      let copies = withdraw-law (contents m) (limit m) (f .total) (top o) st a kept-tree (holds .low) (w .event) .2 in
       record {
-        root = w .2 .root;
-        height = w .2 .height;
-        freed = copies .freed ∙ ap₂ (λ (xs ys : List ℕ). xs ++ ys) (sym (w .2 .path)) (ap (λ (n : ℕ). drop n free) used);
-        kept = next-law m m′ (limit m) (f .total) (top o) st a g kept-tree (holds .low) w;
-        old = kept-after (withdraw-step st a .writes) m m′ (f .height) (limit m) (f .total) (top o) st (w .3)
-            (copies .old (withdraw-step st a .writes) [] (sym (append-nil (withdraw-step st a .writes))));
+        root = w .root;
+        height = w .height;
+        freed = withdraw-frees m m′ (limit m) (f .total) (top o) st a g kept-tree (holds .low) w;
+        kept = withdraw-keeps m m′ (limit m) (f .total) (top o) st a g kept-tree (holds .low) w;
+        old = kept-after (withdraw-step st a .writes) m m′ (f .height) (limit m) (f .total) (top o) st (w .wrote)
+            (copies .old (withdraw-step st a .writes) [] (append-none (withdraw-step st a .writes)));
         page = page-one m′ alone;
         size = alone .size;
         low = omega (arith, height-law st a .1, lower (f .tree) (f .height) a, holds .low);
@@ -93,7 +93,7 @@ module _ (o : Order) (m m′ : Image) (b : Bool) (h r t : ℕ) (free x : List �
       let w = of-file (Err fault) is f holds in (
         w,
         page-one o m h r t free f holds m′ (is .alone),
-        refused-law m m′ (limit m) (f .total) (top o) (tree-state f free) (o .address x) fault (kept-tree o m h r t free f holds) (holds .low) w,
+        withdraw-keeps-old m m′ (limit m) (f .total) (top o) (tree-state f free) (o .address x) fault (kept-tree o m h r t free f holds) (holds .low) w,
       ))
 
   pub withdraw-copied : (g : Copied) (m″ : Image) (free′ : List ℕ) (sum : ℕ) (res : Result (Unit {0}) Fault) (k′ : Known) → Withdraw-is m r h a free (Ok g) m′ → sum ≡ t - 1 →

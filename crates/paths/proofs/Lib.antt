@@ -3,6 +3,8 @@ pub mod PathsWriting
 pub mod PathsMemory
 pub mod PathsReading
 pub mod PathsKept
+pub mod PathsTables
+pub mod PathsCopying
 pub mod TallyReading
 pub mod TallyKept
 pub mod LodgePlacing
@@ -10,11 +12,9 @@ pub mod LodgeEdits
 pub mod LodgeClimbing
 pub mod LodgeTracing
 pub mod LodgeRooting
-pub mod PathsRunning
 pub mod LodgeKeeping
 pub mod WithdrawEditing
 pub mod WithdrawWriting
 pub mod WithdrawClimbs
-pub mod WithdrawPaths
 pub mod WithdrawAlone
 pub mod WithdrawKept

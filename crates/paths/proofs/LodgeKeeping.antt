@@ -7,13 +7,15 @@ use native.Mathlib.Omega.{arith}
 use lib.ListN.{length, drop}
 use Rattle.std.specs.declared.result.Result.{Result}
 use Rattle.std.specs.declared.result.Result.the-variants.{Ok, Err}
-use Rattle.pages.specs.Image.{Image}
-use Rattle.tree.specs.CopyWrites.{Write}
+use Rattle.std.specs.shelf.Lists.{All}
+use Rattle.std.proofs.shelf.Elements.{all-take, all-weaker}
+use Rattle.pages.specs.Image.{Image, Has}
+use Rattle.tree.specs.CopyWrites as tree
 use Rattle.tree.specs.CopyMoves.{State, lodge-step}
 use Rattle.tree.specs.CopyLaws.{Kept, Copies, root-of, path-of, lodge-takes}
 use Rattle.tree.specs.CopyMemory.{path-at}
 use Rattle.tree.specs.CopyUpdate.{Update, lodge-by, needed, handle-of, update-of}
-use Rattle.tree.proofs.CopyKept.{lodge-law}
+use Rattle.tree.proofs.CopyKept.{lodge-law, range-law}
 use Rattle.tree.proofs.CopyUpdate.{update-law}
 use Rattle.faults.specs.declared.fault.Fault.{Fault}
 use Rattle.faults.specs.declared.fault.Fault.the-variants.{Shut, Outside, Work, Absent, Unread, NoHeader, OtherOrder, Unsound, NoEvent, CountFull, HeightFull, Room, Unwritten}
@@ -25,11 +27,11 @@ use Rattle.paths.specs.LodgeRules.{Allowed, Denied, Unlodged, count-under}
 use Rattle.paths.specs.LodgeRules.Denied.{full, high, few}
 use Rattle.paths.specs.LodgeRules.Unlodged.{denied, cut}
 use Rattle.paths.specs.LodgeTree.{Copied-to, Lodged-by}
-use Rattle.paths.specs.LodgeKept.{Lodge-allowed, Lodge-done, Lodges, Lodge-is, lodge-needs, events-at}
+use Rattle.paths.specs.LodgeKept.{Lodge-allowed, Lodge-done, Lodges, Lodge-is, lodge-needs, events-at, Lodge-next-law, Lodge-refused-law, Lodge-free-law}
 use Rattle.paths.proofs.PathsWriting.{accepts-charge}
 use Rattle.paths.proofs.PathsMemory.{kept-after, kept-read}
 use Rattle.paths.proofs.PathsKept.{misread-kept, at-kept, leaf-count}
-use Rattle.paths.proofs.PathsRunning.{free-exist, unwrites-run-out}
+use Rattle.paths.proofs.PathsCopying.{only-short}
 use Rattle.paths.proofs.LodgeClimbing.{allowed-same, denied-same}
 
 lodge-copies : (m : Image) (limit total top : ℕ) (s : State) (a : ℕ) → Kept (contents m) limit total top s → a ≤ top → Lodge-allowed s a
@@ -57,12 +59,19 @@ refuses m m′ s a f c i (full e p) = subst (λ (y : Fault). Lodges m s a (Err y
 refuses m m′ s a f c i (high e p q) = subst (λ (y : Fault). Lodges m s a (Err y) m′) (sym e) (c, p, q, i)
 refuses m m′ s a f c i (few e p q r) = subst (λ (y : Fault). Lodges m s a (Err y) m′) (sym e) (c, p, q, r, i)
 
+-- the pages that a lodge writes exist
+exist : (m : Image) (limit total top : ℕ) (s : State) (a : ℕ) → Kept (contents m) limit total top s → limit ≤ length (m .pages) → a ≤ top → Lodge-allowed s a
+    → All (Has (after-reads m (s .height))) (tree.written (lodge-step s a .writes))
+exist m limit total top s a k l t d =
+    let In = λ (p : ℕ). (2 ≤ p) × (p ≤ limit) in
+    subst (All (Has (after-reads m (s .height)))) (sym (lodge-copies m limit total top s a k t d .wrote))
+    (all-weaker In (Has (after-reads m (s .height))) (λ p h. (omega (arith, h .0), omega (arith, h .1))) _
+    (all-take In (lodge-needs s a) (s .free) (range-law (contents m) limit total top s k .1)))
+
 breaks-off : (m m′ : Image) (limit total top : ℕ) (s : State) (a : ℕ) (f : Fault) → Kept (contents m) limit total top s → limit ≤ length (m .pages) → a ≤ top → s .height ≤ m .charge → Lodge-allowed s a
     → Unwrites (lodge-step s a .writes) (after-reads m (s .height)) f m′ → Lodges m s a (Err f) m′
-breaks-off m m′ limit total top s a f k l top-is c d u =
-    let y = lodge-copies m limit total top s a k top-is d in
-    let o = unwrites-run-out (lodge-step s a .writes) (after-reads m (s .height)) m′ f
-    (λ done rest w q. free-exist m limit total top (lodge-needs s a) s (lodge-step s a .writes) done rest w k l (y .wrote) q) u in
+breaks-off m m′ limit total top s a f k l t c d u =
+    let o = only-short (lodge-step s a .writes) (after-reads m (s .height)) m′ f (exist m limit total top s a k l t d) u in
     subst (λ (z : Fault). Lodges m s a (Err z) m′) (sym (o .told)) (c, d, o .runs)
 
 unlodges : (m m′ : Image) (limit total top : ℕ) (s : State) (a : ℕ) (f : Fault) → Kept (contents m) limit total top s → limit ≤ length (m .pages) → a ≤ top → s .height ≤ m .charge
@@ -112,14 +121,11 @@ lodge-is m m′ root height a free r h v = record {
 pub lodge-above : (m : Image) (root height a : ℕ) (free : List ℕ) → 6 < height → Lodge-is m root height a free (Err HeightFull) m
 lodge-above m root height a free h = record { always = λ l. absurd (omega arith); above = λ _. (refl, refl); kept = λ limit total top s k e t l. absurd (omega arith) }
 
--- after a lodge the next state is kept, with one event more
-pub lodge-keeps : (m m′ : Image) (limit total top : ℕ) (s : State) (a : ℕ) (g : Copied) → Kept (contents m) limit total top s → a ≤ top → Lodges m s a (Ok g) m′
-    → Kept (contents m′) limit (suc total) top (lodge-step s a .next)
+pub lodge-keeps : Lodge-next-law
 lodge-keeps m m′ limit total top s a g k t d =
     kept-after (lodge-step s a .writes) m m′ (s .height) limit (suc total) top (lodge-step s a .next) (d .wrote) (lodge-copies m limit total top s a k t (d .allowed) .kept)
 
--- after a refusal the old one is
-pub lodge-keeps-old : (m m′ : Image) (limit total top : ℕ) (s : State) (a : ℕ) (f : Fault) → Kept (contents m) limit total top s → a ≤ top → Lodges m s a (Err f) m′ → Kept (contents m′) limit total top s
+pub lodge-keeps-old : Lodge-refused-law
 lodge-keeps-old m m′ limit total top s a (Unread x) k t d = kept-read m m′ (m .charge) limit total top s (d .spent) k
 lodge-keeps-old m m′ limit total top s a CountFull k t d = kept-read m m′ (s .height) limit total top s (d .2) k
 lodge-keeps-old m m′ limit total top s a HeightFull k t d = kept-read m m′ (s .height) limit total top s (d .3) k
@@ -136,9 +142,7 @@ lodge-keeps-old m m′ limit total top s a OtherOrder k t d = absurd d
 lodge-keeps-old m m′ limit total top s a (Unsound p r) k t d = absurd d
 lodge-keeps-old m m′ limit total top s a NoEvent k t d = absurd d
 
--- the next state's free list, from what the code gives
-pub lodge-frees : (m m′ : Image) (limit total top : ℕ) (s : State) (a : ℕ) (g : Copied) → Kept (contents m) limit total top s → a ≤ top → Lodges m s a (Ok g) m′
-    → lodge-step s a .next .free ≡ back (s .height) (g .path) ++ drop (g .used) (s .free)
+pub lodge-frees : Lodge-free-law
 lodge-frees m m′ limit total top s a g k t d =
     let y = lodge-copies m limit total top s a k t (d .allowed) in
     y .freed ∙ ap (λ (n : ℕ). path-of (s .tree) a ++ drop n (s .free)) (sym (d .used ∙ y .took)) ∙ ap (λ (ps : List ℕ). ps ++ drop (g .used) (s .free)) (sym (d .path))

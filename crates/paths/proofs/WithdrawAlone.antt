@@ -3,14 +3,12 @@ use mathlib.Core.Path.{_≡_, refl, sym, ap, subst, _∙_}
 use mathlib.Core.List.{List, [], _∷_, _++_}
 use Prim.Native.Nat.{ℕ, zero, suc, _+_, _-_, _<_, _≤_}
 use native.Mathlib.Omega.{arith}
-use lib.ListN.{length, getD, set, length-set}
-use Rattle.std.specs.shelf.Lists.{All}
-use Rattle.std.proofs.shelf.Lists.{getD-set-other}
+use lib.ListN.{length}
 use Rattle.std.specs.declared.result.Result.{Result}
 use Rattle.std.specs.declared.result.Result.the-variants.{Ok, Err}
-use Rattle.pages.specs.Image.{Image, at, written, spent}
+use Rattle.pages.specs.Image.{Image}
 use Rattle.layout.specs.declared.entry.Entry.{Entry}
-use Rattle.tree.specs.Tree.{Contents, Held, Absent}
+use Rattle.tree.specs.Tree.{Contents, Held}
 use Rattle.tree.specs.CopyWrites.{Write}
 use Rattle.tree.specs.CopyWrites as tree
 use Rattle.tree.specs.CopyMoves.{Made, remove}
@@ -22,17 +20,13 @@ use Rattle.tree.proofs.CopyNumbers.{written-move, thread-length}
 use Rattle.faults.specs.declared.fault.Fault.{Fault}
 use Rattle.faults.specs.Accesses.{contents}
 use Rattle.paths.specs.declared.copied.Copied.{Copied}
-use Rattle.paths.specs.PathsWrites.{stored, encoded, after-reads, Accepts, Wrote}
-use Rattle.paths.specs.PathsReading.{Misread}
-use Rattle.paths.specs.PathsReading.Misread.{refused, broken}
+use Rattle.paths.specs.PathsWrites.{after-reads, Wrote}
 use Rattle.paths.specs.Withdrawals.Refusal.{misread, no-event, unwrites}
-use Rattle.paths.specs.WithdrawRules.{Withdrew, Leaves-alone}
+use Rattle.paths.specs.WithdrawRules.{Withdrew}
 use Rattle.paths.specs.WithdrawRules.Not-withdrawn.{no-room, refusal}
-use Rattle.paths.proofs.PathsWriting.{after-none, stored-charge}
-
-pub stored-length : (ws : List Write) (m : Image) → length (stored ws m .pages) ≡ length (m .pages)
-stored-length [] m = refl
-stored-length (w ∷ ws) m = stored-length ws (written m (w .page) (encoded (w .says))) ∙ length-set (m .pages) (w .page - 1) (encoded (w .says))
+use Rattle.paths.specs.PathsCopies.{Leaves-alone}
+use Rattle.paths.proofs.PathsWriting.{after-none}
+use Rattle.paths.proofs.PathsCopying.{wrote-alone, read-alone, misread-alone, append-none}
 
 pub by-writes : (h : ℕ) (m : Contents) (p a : ℕ) (free : List ℕ) → withdraw-at h m p a free .writes ≡ withdraw-by h m p a free .writes
 unfolding withdraw-at
@@ -56,51 +50,13 @@ thread (suc (suc l)) m p a free h =
     place-thread (suc (suc l)) (clear (m p .entries) a (k .part)) (k .writes) (k .rest) free
     (omega (arith, thread-length (k .writes) (k .rest) free t, writes-law (suc l) m (pick (m p .entries) a) a free .withdraws)) t
 
-pub front-of : (P : ℕ → Type 0) (xs ys : List ℕ) → All P (xs ++ ys) → All P xs
-front-of P [] ys t = tt
-front-of P (x ∷ xs) ys t = (t .0, front-of P xs ys (t .1))
-
-pub written-append : (xs ys : List Write) → tree.written (xs ++ ys) ≡ tree.written xs ++ tree.written ys
-written-append [] ys = refl
-written-append (x ∷ xs) ys = ap (λ (z : List ℕ). x .page ∷ z) (written-append xs ys)
-
-pub stays : (ws : List Write) (m : Image) (p : ℕ) → Accepts ws m → 1 ≤ p → Absent p (tree.written ws) → at (stored ws m) p ≡ at m p
-stays [] m p a o n = refl
-stays (w ∷ ws) m p a o n =
-    stays ws (written m (w .page) (encoded (w .says))) p (a .3) o (n .1)
-    ∙ getD-set-other (m .pages) (w .page - 1) (p - 1) (encoded (w .says)) [] (λ e. n .0 (omega (arith, e, a .0 .0)))
-
--- a beginning of writes that come from the free list
-wrote-alone : (ws done rest : List Write) (m m′ : Image) (h : ℕ) (free left : List ℕ) → tree.written ws ++ left ≡ free → ws ≡ done ++ rest → Wrote done (after-reads m h) m′ → Leaves-alone m free m′
-wrote-alone ws done rest m m′ h free left t e w = record {
-  size = ap (λ (z : Image). length (z .pages)) (w .image) ∙ stored-length done (after-reads m h);
-  charge = omega (arith, ap (λ (z : Image). z .charge) (w .image), stored-charge done (after-reads m h));
-  others = λ p o n.
-      (let P : ℕ → Type 0 = λ x. x ≡ p → ⊥ in
-      let b : All P (tree.written ws) = front-of P (tree.written ws) left (subst (All P) (sym t) n) in
-      let c : All P (tree.written done) = front-of P (tree.written done) (tree.written rest) (subst (All P) (ap tree.written e ∙ written-append done rest) b) in
-      ap (λ (z : Image). at z p) (w .image) ∙ stays done (after-reads m h) p (w .accepts) o c);
-}
-
-read-alone : (m m′ : Image) (h : ℕ) (free : List ℕ) → m′ ≡ after-reads m h → Leaves-alone m free m′
-read-alone m m′ h free e = record {
-  size = ap (λ (z : Image). length (z .pages)) e;
-  charge = omega (arith, ap (λ (z : Image). z .charge) e);
-  others = λ p o n. ap (λ (z : Image). at z p) e;
-}
-
-append-none : (ws : List Write) → ws ≡ ws ++ []
-append-none [] = refl
-append-none (w ∷ ws) = ap (λ (z : List Write). w ∷ z) (append-none ws)
-
 pub alone : (m m′ : Image) (h p a : ℕ) (free : List ℕ) (r : Result Copied Fault) → Withdrew m h p a free r m′ → Leaves-alone m free m′
 alone m m′ h p a free (Ok g) t =
     let ws : List Write = withdraw-at h (contents m) p a free .writes in
     wrote-alone ws ws [] m m′ h free (withdraw-at h (contents m) p a free .rest) (thread h (contents m) p a free (t .room .1)) (append-none ws)
     (subst (λ (x : List Write). Wrote x (after-reads m h) m′) (sym (by-writes h (contents m) p a free)) (t .wrote))
 alone m m′ h p a free (Err f) (no-room e n i) = read-alone m m′ 0 free (i ∙ after-none m)
-alone m m′ h p a free (Err f) (refusal b (misread (refused d x e s k r i))) = read-alone m m′ d free i
-alone m m′ h p a free (Err f) (refusal b (misread (broken d q v r e s k x i))) = read-alone m m′ (suc d) free i
+alone m m′ h p a free (Err f) (refusal b (misread t)) = misread-alone m m′ h p a free f t
 alone m m′ h p a free (Err f) (refusal b (no-event e c n i)) = read-alone m m′ h free i
 alone m m′ h p a free (Err f) (refusal b (unwrites c n u)) =
     wrote-alone (withdraw-at h (contents m) p a free .writes) (u .cut .done) (u .cut .next ∷ u .cut .rest) m m′ h free (withdraw-at h (contents m) p a free .rest)

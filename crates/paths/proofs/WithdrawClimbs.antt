@@ -25,8 +25,8 @@ use Rattle.paths.specs.declared.left.Left.{Left}
 use Rattle.paths.specs.WithdrawEdits.{Takes-one, left-of}
 use Rattle.paths.specs.PathsWrites.{after-reads, Wrote, Unwrites}
 use Rattle.paths.specs.PathsPages.{Read, Unread-page}
-use Rattle.paths.specs.PathsReading.{Misread}
-use Rattle.paths.specs.Withdrawals.{Gives, Placed, Places-left, Refusal, Done, Withdrawn}
+use Rattle.paths.specs.PathsReading.{Misread, back}
+use Rattle.paths.specs.Withdrawals.{Gives, Placed, Places-left, Refusal, Done, Withdrawn, Traced}
 use Rattle.paths.specs.Withdrawals.Refusal.{misread, no-event, unwrites}
 use Rattle.paths.proofs.PathsWriting.{wrote-more, unwrites-more, unwrites-less, after-more}
 use Rattle.paths.proofs.PathsReading.{Goes, at-child, misread-here, misread-below}
@@ -146,3 +146,8 @@ inner-climbs (suc (suc h)) k m m₂ m₁ m′ p a child free es ds g r w t e u =
 -- the pages used below are at most one for each level
 pub used-below : (m m₁ : Image) (k p a : ℕ) (free : List ℕ) (g : Left) → Done m k p a free g m₁ → g .used ≤ k
 used-below m m₁ k p a free g t = omega (arith, t .gives .uses, writes-law k (contents m) p a free .withdraws)
+
+-- the path in the table, where the answer asks for it
+pub traced : (m : Image) (l p a : ℕ) (r : Result Left Fault) (table : List ℕ) → back l table ≡ path-at l (contents m) p a → Traced m l p a r table
+traced m l p a (Ok g) table e = e
+traced m l p a (Err f) table e = tt

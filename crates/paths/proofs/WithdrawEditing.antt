@@ -11,11 +11,11 @@ use Rattle.std.specs.declared.option.Option.the-variants.{Some, None}
 use Rattle.layout.specs.declared.entry.Entry.{Entry}
 use Rattle.layout.specs.declared.change.ChildPages.the-variants.{One}
 use Rattle.layout.specs.Edits as page
-use Rattle.layout.specs.Changes.{Removes, Picks, Puts}
+use Rattle.layout.specs.Changes.{Removes, Puts}
 use Rattle.tree.specs.Tree.{Held}
 use Rattle.tree.specs.Tree.Held.{none, held}
 use Rattle.tree.specs.CopyMoves.{entry, remove}
-use Rattle.tree.specs.CopyPages.{pick, clear, before, ended}
+use Rattle.tree.specs.CopyPages.{clear, before}
 use Rattle.tree.proofs.CopyBase.{by-le, by-eq}
 use Rattle.paths.specs.WithdrawEdits.{Takes-one, left-of}
 
@@ -35,11 +35,6 @@ takes-one a es after true n t =
     let e = t .1 ∙ remove-same a es in
     (t .0, e, omega (arith, ap length e, remove-length a es))
 takes-one a es after false n t = t
-
-pub pick-same : (es : List Entry) (a : ℕ) → page.child-for es a ≡ pick es a
-pick-same [] a = refl
-pick-same (e ∷ []) a = refl
-pick-same (e ∷ (d ∷ es)) a = ap (λ (z : ℕ). cond (leb a (e .key)) (e .value) z) (pick-same (d ∷ es) a)
 
 before-length : (e : Entry) (es : List Entry) → length (before e es) ≡ suc (length es)
 before-length e [] = refl

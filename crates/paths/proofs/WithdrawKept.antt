@@ -3,16 +3,14 @@ use mathlib.Core.Path.{_≡_, refl, sym, ap, subst, _∙_}
 use mathlib.Core.List.{List, [], _∷_, _++_}
 use Prim.Native.Nat.{ℕ, zero, suc, _+_, _-_, _<_, _≤_}
 use native.Mathlib.Omega.{arith}
-use lib.ListN.{length, set, take, length-set}
+use lib.ListN.{length, take, drop}
 use Rattle.std.specs.shelf.Lists.{All}
 use Rattle.std.proofs.shelf.Elements.{all-take, all-weaker}
 use Rattle.std.specs.declared.option.Option.{Option}
 use Rattle.std.specs.declared.option.Option.the-variants.{Some, None}
 use Rattle.std.specs.declared.result.Result.{Result}
 use Rattle.std.specs.declared.result.Result.the-variants.{Ok, Err}
-use Rattle.pages.specs.declared.fault.StoreFault.{StoreFault}
-use Rattle.pages.specs.declared.fault.StoreFault.the-variants.{Uncharged}
-use Rattle.pages.specs.Image.{Image, Has, written}
+use Rattle.pages.specs.Image.{Image, Has}
 use Rattle.layout.specs.declared.entry.Entry.{Entry}
 use Rattle.layout.specs.Content.{LeafKeys}
 use Rattle.layout.specs.Edits.{found}
@@ -29,24 +27,23 @@ use Rattle.tree.proofs.CopyBase.{by-le, by-eq}
 use Rattle.tree.proofs.CopyKept.{number-law, range-law, withdraw-law}
 use Rattle.tree.proofs.CopyDescent.{tally-law}
 use Rattle.tree.proofs.CopyUpdate.{update-law}
-use Rattle.faults.specs.declared.fault.Access.{Access}
 use Rattle.faults.specs.declared.fault.Fault.{Fault}
 use Rattle.faults.specs.declared.fault.Fault.the-variants.{Shut, Outside, Work, Absent, Unread, NoHeader, OtherOrder, Unsound, NoEvent, CountFull, HeightFull, Room, Unwritten}
-use Rattle.faults.specs.Refusals.{unwritten, by-fault}
 use Rattle.faults.specs.Accesses.{contents}
 use Rattle.paths.specs.declared.left.Left.{Left}
 use Rattle.paths.specs.declared.copied.Copied.{Copied}
 use Rattle.paths.specs.WithdrawEdits.{left-of}
-use Rattle.paths.specs.PathsWrites.{stored, encoded, after-reads, Wrote, Cut, Unwrites}
+use Rattle.paths.specs.PathsWrites.{after-reads, Wrote, Unwrites}
 use Rattle.paths.specs.PathsReading.{back, counted, Kept-at}
 use Rattle.paths.specs.Withdrawals.{Done, Refusal, Traced}
 use Rattle.paths.specs.Withdrawals.Refusal.{misread, no-event, unwrites}
-use Rattle.paths.specs.WithdrawRules.{copied-of, Copies-left, Room-for, Not-withdrawn, Withdrew, Answers-step, Runs-dry, Withdraws, Withdraw-is, Withdraw-next-law, Withdraw-refused-law}
+use Rattle.paths.specs.WithdrawRules.{copied-of, Copies-left, Room-for, Not-withdrawn, Withdrew, Withdraws, Withdraw-is, Withdraw-next-law, Withdraw-free-law, Withdraw-refused-law}
 use Rattle.paths.specs.WithdrawRules.Not-withdrawn.{no-room, refusal}
-use Rattle.paths.proofs.PathsWriting.{after-none, accepts-charge, stored-charge}
+use Rattle.paths.proofs.PathsWriting.{after-none, accepts-charge}
 use Rattle.paths.proofs.PathsMemory.{kept-after, kept-read}
-use Rattle.paths.proofs.WithdrawAlone.{alone, stored-length, by-writes}
-use Rattle.paths.proofs.PathsKept.{only-charge, misread-kept, at-kept, leaf-count}
+use Rattle.paths.proofs.PathsCopying.{only-short}
+use Rattle.paths.proofs.WithdrawAlone.{alone, by-writes}
+use Rattle.paths.proofs.PathsKept.{misread-kept, at-kept, leaf-count}
 
 -- the exits of the whole call
 empty-none : (m : Image) (p a : ℕ) (free : List ℕ) → Refusal m 0 p a free NoEvent m
@@ -104,46 +101,15 @@ copies-kept : (m m′ : Image) (limit total top : ℕ) (s : State) (a : ℕ) (g 
     → Copies-left m (s .height) (root-of (s .tree)) a (s .free) g m′ → Withdraws m s a (Ok g) m′
 copies-kept m m′ limit total top s a g k t =
     let u = updated m limit total top s a k in
-    let w : Wrote (withdraw-step s a .writes) (after-reads m (s .height)) m′ = subst (λ (x : Update). Wrote (x .writes) (after-reads m (s .height)) m′) u (t .wrote) in (
-      event-count m limit total top s a k (t .event),
-      omega (arith, t .charged, accepts-charge (withdraw-step s a .writes) (after-reads m (s .height)) (w .accepts)),
-      record {
-        root = t .root ∙ ap (λ (x : Update). x .next .root) u;
-        height = t .height ∙ ap (λ (x : Update). x .next .height) u;
-        used = t .used ∙ ap (λ (x : Update). length (x .writes)) u;
-        path = t .path ∙ update-law (contents m) limit total top s a k .3;
-      },
-      w,
-    )
-
--- writes that break off where every page is there
-all-next : (P : ℕ → Type 0) (done rest : List Write) (next : Write) → All P (tree.written (done ++ (next ∷ rest))) → P (next .page)
-all-next P [] rest next t = t .0
-all-next P (w ∷ done) rest next t = all-next P done rest next (t .1)
-
-unwritten-is : (x : Access) → x .fault ≡ Uncharged → unwritten x ≡ Unwritten x
-unwritten-is x e = ap (λ (y : StoreFault). by-fault y (Absent x) (Unwritten x)) e
-
-pub record Only-dry (ws : List Write) (m : Image) (f : Fault) (m′ : Image) : Type 0 where
-  pub access : Access
-  pub told : f ≡ Unwritten access
-  pub runs : Runs-dry ws m access m′
-
-pub only-dry : (ws : List Write) (m m′ : Image) (f : Fault) → All (Has m) (tree.written ws) → Unwrites ws m f m′ → Only-dry ws m f m′
-only-dry ws m m′ f all u =
-    let c = u .cut in
-    let x = u .access in
-    let h : Has m (c .next .page) = all-next (Has m) (c .done) (c .rest) (c .next) (subst (λ (z : List Write). All (Has m) (tree.written z)) (c .writes) all) in
-    let l : length (m′ .pages) ≡ length (m .pages) = ap (λ (z : Image). length (z .pages)) (c .began .image) ∙ stored-length (c .done) m in
-    let o = only-charge m′ (x .page) (x .fault) (omega (arith, h .0, c .page), omega (arith, h .1, c .page, l)) (c .refused) in
+    let w : Wrote (withdraw-step s a .writes) (after-reads m (s .height)) m′ = subst (λ (x : Update). Wrote (x .writes) (after-reads m (s .height)) m′) u (t .wrote) in
     record {
-      access = x;
-      told = u .told ∙ unwritten-is x (o .0);
-      runs = record {
-        cut = c;
-        fault = o .0;
-        carried = omega (arith, o .1, ap (λ (z : Image). z .charge) (c .began .image), stored-charge (c .done) m, accepts-charge (c .done) m (c .began .accepts));
-      };
+      event = event-count m limit total top s a k (t .event);
+      carried = omega (arith, t .charged, accepts-charge (withdraw-step s a .writes) (after-reads m (s .height)) (w .accepts));
+      root = t .root ∙ ap (λ (x : Update). x .next .root) u;
+      height = t .height ∙ ap (λ (x : Update). x .next .height) u;
+      used = t .used ∙ ap (λ (x : Update). length (x .writes)) u;
+      path = t .path ∙ update-law (contents m) limit total top s a k .3;
+      wrote = w;
     }
 
 all-there : (m : Image) (limit total top : ℕ) (s : State) (a : ℕ) → Kept (contents m) limit total top s → limit ≤ length (m .pages)
@@ -163,41 +129,47 @@ refused-kept m m′ limit total top s a f k l six (refusal b (misread t)) =
     let o = misread-kept m m′ (root-of (s .tree)) (s .height) limit total top s a f (record { kept = k; there = l; root-is = refl; height-is = refl }) t in
     subst (λ (x : Fault). Withdraws m s a (Err x) m′) (sym (o .told)) (o .runs)
 refused-kept m m′ limit total top s a f k l six (refusal b (no-event e c n i)) =
-    subst (λ (x : Fault). Withdraws m s a (Err x) m′) (sym e) (sym (leaf-count m limit total top s a k) ∙ ap counted n, c, i)
+    subst (λ (x : Fault). Withdraws m s a (Err x) m′) (sym e) (c, sym (leaf-count m limit total top s a k) ∙ ap counted n, i)
 refused-kept m m′ limit total top s a f k l six (refusal b (unwrites c n u)) =
     let v = event-count m limit total top s a k n in
     let w : withdraw-at (s .height) (contents m) (root-of (s .tree)) a (s .free) .writes ≡ withdraw-step s a .writes =
     by-writes (s .height) (contents m) (root-of (s .tree)) a (s .free) ∙ ap (λ (x : Update). x .writes) (updated m limit total top s a k) in
-    let o = only-dry (withdraw-step s a .writes) (after-reads m (s .height)) m′ f
+    let o = only-short (withdraw-step s a .writes) (after-reads m (s .height)) m′ f
     (all-there m limit total top s a k l (withdraw-law (contents m) limit total top s a k six v .2))
     (subst (λ (x : List Write). Unwrites x (after-reads m (s .height)) f m′) w u) in
-    subst (λ (x : Fault). Withdraws m s a (Err x) m′) (sym (o .told)) (v, c, o .runs)
+    subst (λ (x : Fault). Withdraws m s a (Err x) m′) (sym (o .told)) (c, v, o .runs)
 
 withdraws-kept : (m m′ : Image) (limit total top : ℕ) (s : State) (a : ℕ) (r : Result Copied Fault) → Kept (contents m) limit total top s → limit ≤ length (m .pages) → s .height ≤ 6
     → Withdrew m (s .height) (root-of (s .tree)) a (s .free) r m′ → Withdraws m s a r m′
 withdraws-kept m m′ limit total top s a (Ok g) k l six t = copies-kept m m′ limit total top s a g k t
 withdraws-kept m m′ limit total top s a (Err f) k l six t = refused-kept m m′ limit total top s a f k l six t
 
-pub next-law : Withdraw-next-law
-next-law m m′ limit total top s a g k six t =
-    kept-after (withdraw-step s a .writes) m m′ (s .height) limit (total - 1) top (withdraw-step s a .next) (t .3) (withdraw-law (contents m) limit total top s a k six (t .0) .2 .kept)
+pub withdraw-keeps : Withdraw-next-law
+withdraw-keeps m m′ limit total top s a g k six t =
+    kept-after (withdraw-step s a .writes) m m′ (s .height) limit (total - 1) top (withdraw-step s a .next) (t .wrote) (withdraw-law (contents m) limit total top s a k six (t .event) .2 .kept)
 
-pub refused-law : Withdraw-refused-law
-refused-law m m′ limit total top s a (Unread x) k six t = kept-read m m′ (m .charge) limit total top s (t .spent) k
-refused-law m m′ limit total top s a NoEvent k six t = kept-read m m′ (s .height) limit total top s (t .2) k
-refused-law m m′ limit total top s a (Unwritten x) k six t =
-    let c = t .2 .cut in
-    kept-after (c .done) m m′ (s .height) limit total top s (c .began) (withdraw-law (contents m) limit total top s a k six (t .0) .2 .old (c .done) (c .next ∷ c .rest) (c .writes))
-refused-law m m′ limit total top s a Shut k six t = absurd t
-refused-law m m′ limit total top s a Outside k six t = absurd t
-refused-law m m′ limit total top s a Work k six t = absurd t
-refused-law m m′ limit total top s a (Absent x) k six t = absurd t
-refused-law m m′ limit total top s a NoHeader k six t = absurd t
-refused-law m m′ limit total top s a OtherOrder k six t = absurd t
-refused-law m m′ limit total top s a (Unsound p r) k six t = absurd t
-refused-law m m′ limit total top s a CountFull k six t = absurd t
-refused-law m m′ limit total top s a HeightFull k six t = absurd t
-refused-law m m′ limit total top s a Room k six t = absurd t
+pub withdraw-keeps-old : Withdraw-refused-law
+withdraw-keeps-old m m′ limit total top s a (Unread x) k six t = kept-read m m′ (m .charge) limit total top s (t .spent) k
+withdraw-keeps-old m m′ limit total top s a NoEvent k six t = kept-read m m′ (s .height) limit total top s (t .2) k
+withdraw-keeps-old m m′ limit total top s a (Unwritten x) k six t =
+    let c = t .2 in
+    kept-after (c .done) m m′ (s .height) limit total top s (c .began) (withdraw-law (contents m) limit total top s a k six (t .1) .2 .old (c .done) (c .next ∷ c .rest) (c .writes))
+withdraw-keeps-old m m′ limit total top s a Shut k six t = absurd t
+withdraw-keeps-old m m′ limit total top s a Outside k six t = absurd t
+withdraw-keeps-old m m′ limit total top s a Work k six t = absurd t
+withdraw-keeps-old m m′ limit total top s a (Absent x) k six t = absurd t
+withdraw-keeps-old m m′ limit total top s a NoHeader k six t = absurd t
+withdraw-keeps-old m m′ limit total top s a OtherOrder k six t = absurd t
+withdraw-keeps-old m m′ limit total top s a (Unsound p r) k six t = absurd t
+withdraw-keeps-old m m′ limit total top s a CountFull k six t = absurd t
+withdraw-keeps-old m m′ limit total top s a HeightFull k six t = absurd t
+withdraw-keeps-old m m′ limit total top s a Room k six t = absurd t
+
+pub withdraw-frees : Withdraw-free-law
+withdraw-frees m m′ limit total top s a g k six t =
+    let y = withdraw-law (contents m) limit total top s a k six (t .event) .2 in
+    y .freed ∙ ap (λ (n : ℕ). path-of (s .tree) a ++ drop n (s .free)) (sym (t .used ∙ y .took))
+    ∙ ap (λ (ps : List ℕ). ps ++ drop (g .used) (s .free)) (sym (t .path))
 
 pub withdraw-is : (m m′ : Image) (root height a : ℕ) (free : List ℕ) (r : Result Copied Fault) → Withdrew m height root a free r m′ → Withdraw-is m root height a free r m′
 withdraw-is m m′ root height a free r t = record {

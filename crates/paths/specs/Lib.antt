@@ -1,6 +1,7 @@
 pub mod PathsWrites
 pub mod PathsPages
 pub mod PathsReading
+pub mod PathsCopies
 pub mod TallyRules
 pub mod LodgePlaces
 pub mod LodgeRules

@@ -1,16 +1,17 @@
 -- Lodge where a state is kept: what is answered, and what the store holds then.
 use mathlib.Core.Path.{_≡_}
-use mathlib.Core.List.{List}
-use Prim.Native.Nat.{ℕ, _+_, _≤_, _<_}
-use lib.ListN.{length}
+use mathlib.Core.List.{List, _++_}
+use Prim.Native.Nat.{ℕ, suc, _+_, _≤_, _<_}
+use lib.ListN.{length, drop}
 use Rattle.std.specs.declared.result.Result.{Result}
 use Rattle.std.specs.declared.result.Result.the-variants.{Ok, Err}
 use Rattle.pages.specs.Image.{Image}
 use Rattle.tree.specs.Tree.{count-at}
 use Rattle.tree.specs.CopyMoves.{State, lodge-step}
-use Rattle.tree.specs.CopyLaws.{events-of, path-of, root-of, lodge-takes}
+use Rattle.tree.specs.CopyLaws.{Kept, events-of, path-of, root-of, lodge-takes}
 use Rattle.faults.specs.declared.fault.Fault.{Fault}
 use Rattle.faults.specs.declared.fault.Fault.the-variants.{Shut, Outside, Work, Absent, Unread, NoHeader, OtherOrder, Unsound, NoEvent, CountFull, HeightFull, Room, Unwritten}
+use Rattle.faults.specs.Accesses.{contents}
 use Rattle.paths.specs.declared.copied.Copied.{Copied}
 use Rattle.paths.specs.PathsWrites.{Wrote, Writes-run-out, after-reads}
 use Rattle.paths.specs.PathsReading.{Runs-out, Kept-at, back}
@@ -62,3 +63,18 @@ pub record Lodge-is (m : Image) (root height a : ℕ) (free : List ℕ) (r : Res
   pub always : height ≤ 6 → Lodged-by m height root a free r m′
   pub above : 6 < height → (r ≡ Err HeightFull) × (m′ ≡ m)
   pub kept : (limit total top : ℕ) (s : State) → Kept-at m root height limit total top s → free ≡ s .free → a ≤ top → height ≤ 6 → Lodges m s a r m′
+
+-- where it is accepted, the step's state is kept in the store, with one event more
+abbrev pub Lodge-next-law : Type 0
+Lodge-next-law = (m m′ : Image) (limit total top : ℕ) (s : State) (a : ℕ) (g : Copied) → Kept (contents m) limit total top s → a ≤ top → Lodges m s a (Ok g) m′
+    → Kept (contents m′) limit (suc total) top (lodge-step s a .next)
+
+-- its free list is the old path, the root first, before what is left of the old free list
+abbrev pub Lodge-free-law : Type 0
+Lodge-free-law = (m m′ : Image) (limit total top : ℕ) (s : State) (a : ℕ) (g : Copied) → Kept (contents m) limit total top s → a ≤ top → Lodges m s a (Ok g) m′
+    → lodge-step s a .next .free ≡ back (s .height) (g .path) ++ drop (g .used) (s .free)
+
+-- where it is refused, the state is kept as it was
+abbrev pub Lodge-refused-law : Type 0
+Lodge-refused-law = (m m′ : Image) (limit total top : ℕ) (s : State) (a : ℕ) (f : Fault) → Kept (contents m) limit total top s → a ≤ top → Lodges m s a (Err f) m′
+    → Kept (contents m′) limit total top s

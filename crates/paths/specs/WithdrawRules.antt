@@ -1,29 +1,27 @@
 -- Withdraw: one event less at an address.
 use mathlib.Core.Path.{_≡_}
-use mathlib.Core.List.{List}
+use mathlib.Core.List.{List, _++_}
 use Prim.Native.Nat.{ℕ, _+_, _-_, _≤_}
-use lib.ListN.{length}
+use lib.ListN.{length, drop}
 use Rattle.std.specs.declared.option.Option.the-variants.{None}
 use Rattle.std.specs.declared.result.Result.{Result}
 use Rattle.std.specs.declared.result.Result.the-variants.{Ok, Err}
-use Rattle.pages.specs.declared.fault.StoreFault.the-variants.{Uncharged}
-use Rattle.pages.specs.Image.{Image, at}
+use Rattle.pages.specs.Image.{Image}
 use Rattle.layout.specs.Edits.{found}
-use Rattle.tree.specs.Tree.{Absent as Not-in, count-at}
-use Rattle.tree.specs.CopyWrites.{Write}
+use Rattle.tree.specs.Tree.{count-at}
 use Rattle.tree.specs.CopyMoves.{State, withdraw-step}
 use Rattle.tree.specs.CopyLaws.{Kept, events-of, path-of, root-of}
 use Rattle.tree.specs.CopyMemory.{path-at, leaf-at}
 use Rattle.tree.specs.CopyUpdate.{withdraw-by, root-left, height-at}
-use Rattle.faults.specs.declared.fault.Access.{Access}
 use Rattle.faults.specs.declared.fault.Fault.{Fault}
 use Rattle.faults.specs.declared.fault.Fault.the-variants.{Shut, Outside, Work, Absent, Unread, NoHeader, OtherOrder, Unsound, NoEvent, CountFull, HeightFull, Room, Unwritten}
 use Rattle.faults.specs.Accesses.{contents}
 use Rattle.paths.specs.declared.left.Left.{Left}
 use Rattle.paths.specs.declared.copied.Copied.{Copied}
 use Rattle.paths.specs.WithdrawEdits.{left-of}
-use Rattle.paths.specs.PathsWrites.{after-reads, Wrote, Cut}
+use Rattle.paths.specs.PathsWrites.{after-reads, Wrote, Writes-run-out}
 use Rattle.paths.specs.PathsReading.{back, Runs-out, Kept-at}
+use Rattle.paths.specs.PathsCopies.{Leaves-alone}
 use Rattle.paths.specs.Withdrawals.{Refusal}
 
 -- what is left of the root, as an answer: where nothing is left the tree is empty
@@ -54,29 +52,27 @@ abbrev pub Withdrew : Image → ℕ → ℕ → ℕ → List ℕ → Result Copi
 Withdrew m h p a free (Ok g) m′ = Copies-left m h p a free g m′
 Withdrew m h p a free (Err f) m′ = Not-withdrawn m h p a free f m′
 
--- the answer says what the tree's step gives
-pub record Answers-step (s : State) (a : ℕ) (g : Copied) : Type 0 where
+-- how many events the address has
+abbrev pub has-events : State → ℕ → ℕ
+has-events s a = count-at (events-of (s .tree)) a
+
+-- the tree's step is done, up to the header
+pub record Withdraw-done (m : Image) (s : State) (a : ℕ) (g : Copied) (m′ : Image) : Type 0 where
+  pub event : 1 ≤ has-events s a
+  pub carried : s .height + length (withdraw-step s a .writes) ≤ m .charge
   pub root : g .root ≡ root-of (withdraw-step s a .next .tree)
   pub height : g .height ≡ withdraw-step s a .next .height
   pub used : g .used ≡ length (withdraw-step s a .writes)
   pub path : back (s .height) (g .path) ≡ path-of (s .tree) a
+  pub wrote : Wrote (withdraw-step s a .writes) (after-reads m (s .height)) m′
 
--- the charge runs out among the writes: as many as it carries are done, and the next one is refused
-pub record Runs-dry (ws : List Write) (m : Image) (x : Access) (m′ : Image) : Type 0 where
-  pub cut : Cut ws m x m′
-  pub carried : length (cut .done) ≡ m .charge
-  pub fault : x .fault ≡ Uncharged
-
--- Where a state is kept: the step's answer and writes; 9 where the charge is below the height, with nothing written; then 13 where the
--- point has no event, with nothing written; then 17 where the charge does not carry all writes. There is no other refusal.
+-- Where a state is kept, the answers in the order of the questions: the path is read (9), the point has an event (13), the pages are
+-- written (17). No other refusal occurs.
 abbrev pub Withdraws : Image → State → ℕ → Result Copied Fault → Image → Type 0
-Withdraws m s a (Ok g) m′ =
-    (1 ≤ count-at (events-of (s .tree)) a) × (s .height + length (withdraw-step s a .writes) ≤ m .charge)
-    × Answers-step s a g × Wrote (withdraw-step s a .writes) (after-reads m (s .height)) m′
+Withdraws m s a (Ok g) m′ = Withdraw-done m s a g m′
 Withdraws m s a (Err (Unread x)) m′ = Runs-out m (s .height) (path-of (s .tree) a) x m′
-Withdraws m s a (Err NoEvent) m′ = (count-at (events-of (s .tree)) a ≡ 0) × (s .height ≤ m .charge) × (m′ ≡ after-reads m (s .height))
-Withdraws m s a (Err (Unwritten x)) m′ =
-    (1 ≤ count-at (events-of (s .tree)) a) × (s .height ≤ m .charge) × Runs-dry (withdraw-step s a .writes) (after-reads m (s .height)) x m′
+Withdraws m s a (Err NoEvent) m′ = (s .height ≤ m .charge) × (has-events s a ≡ 0) × (m′ ≡ after-reads m (s .height))
+Withdraws m s a (Err (Unwritten x)) m′ = (s .height ≤ m .charge) × (1 ≤ has-events s a) × Writes-run-out (withdraw-step s a .writes) (after-reads m (s .height)) x m′
 Withdraws m s a (Err Shut) m′ = ⊥
 Withdraws m s a (Err Outside) m′ = ⊥
 Withdraws m s a (Err Work) m′ = ⊥
@@ -88,23 +84,23 @@ Withdraws m s a (Err CountFull) m′ = ⊥
 Withdraws m s a (Err HeightFull) m′ = ⊥
 Withdraws m s a (Err Room) m′ = ⊥
 
--- what never changes: the number of pages, and the bytes of every page that is not free; and no charge comes back
-pub record Leaves-alone (m : Image) (free : List ℕ) (m′ : Image) : Type 0 where
-  pub size : length (m′ .pages) ≡ length (m .pages)
-  pub charge : m′ .charge ≤ m .charge
-  pub others : (p : ℕ) → 1 ≤ p → Not-in p free → at m′ p ≡ at m p
-
 -- for every memory; and for every kept state that it holds, of at most six levels
 pub record Withdraw-is (m : Image) (root height a : ℕ) (free : List ℕ) (r : Result Copied Fault) (m′ : Image) : Type 0 where
   pub always : Withdrew m height root a free r m′
   pub alone : Leaves-alone m free m′
   pub kept : (limit total top : ℕ) (s : State) → Kept-at m root height limit total top s → free ≡ s .free → height ≤ 6 → Withdraws m s a r m′
 
--- where it is accepted, the step's state is kept in the store; where it is refused, the state is kept as it was
+-- where it is accepted, the step's state is kept in the store, with one event less
 abbrev pub Withdraw-next-law : Type 0
 Withdraw-next-law = (m m′ : Image) (limit total top : ℕ) (s : State) (a : ℕ) (g : Copied) → Kept (contents m) limit total top s → s .height ≤ 6
     → Withdraws m s a (Ok g) m′ → Kept (contents m′) limit (total - 1) top (withdraw-step s a .next)
 
+-- its free list is the old path, the root first, before what is left of the old free list
+abbrev pub Withdraw-free-law : Type 0
+Withdraw-free-law = (m m′ : Image) (limit total top : ℕ) (s : State) (a : ℕ) (g : Copied) → Kept (contents m) limit total top s → s .height ≤ 6
+    → Withdraws m s a (Ok g) m′ → withdraw-step s a .next .free ≡ back (s .height) (g .path) ++ drop (g .used) (s .free)
+
+-- where it is refused, the state is kept as it was
 abbrev pub Withdraw-refused-law : Type 0
 Withdraw-refused-law = (m m′ : Image) (limit total top : ℕ) (s : State) (a : ℕ) (f : Fault) → Kept (contents m) limit total top s → s .height ≤ 6
     → Withdraws m s a (Err f) m′ → Kept (contents m′) limit total top s

@@ -1,5 +1,7 @@
-// A tree whose path was copied: its new root and height (0 and 0 where it is empty), how many pages of the free list's front
-// were used, and the old path, the leaf first, with as many places in use as the tree was high.
+// What a copy of a path gives.
+
+// The tree's new root and height; how many pages were taken from the front of the free list; and the old path's pages,
+// the page of level i + 1 at place i, for i below the old height.
 #[derive(Clone, Copy)]
 pub struct Copied {
     pub root: u16,

@@ -1,10 +1,10 @@
 // Lodge, withdraw and tally: reading and copying the path from the root to the leaf that an address belongs to.
 pub mod copied;
-pub mod left;
+mod left;
 pub mod lodge;
 mod page;
-pub mod place;
-pub mod plan;
+mod place;
+mod plan;
 pub mod tally;
 pub mod withdraw;
 mod withdraw_edits;

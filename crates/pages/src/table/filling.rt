@@ -29,7 +29,7 @@ fn fill(places: &mut [u16; 1024], count: u16, after: u16, upto: u16) -> u16
 
 impl SkipTable {
     // A table without a place.
-    pub fn none() -> SkipTable
+    pub(crate) fn none() -> SkipTable
         ensures { λ r. ⌜ places-in r ≡ [] ⌝ }
     {
         SkipTable {
@@ -40,7 +40,7 @@ impl SkipTable {
     }
 
     // Goes through the list once: checks that it rises and stays within the pages of a store of `size`, and enters what it leaves.
-    pub fn without(bad: &[u16], size: u16) -> Option<SkipTable>
+    pub(crate) fn without(bad: &[u16], size: u16) -> Option<SkipTable>
         ensures { λ r. ⌜ Tabulates (now (bad .entry)) size r ⌝ }
     {
         if bad.is_empty() || bad.len() > MOST_BAD {
@@ -65,14 +65,14 @@ impl SkipTable {
     }
 
     // How many pages the layer has over a store of `size` pages.
-    pub fn count_over(&self, size: u16) -> u16
+    pub(crate) fn count_over(&self, size: u16) -> u16
         ensures { λ r. ⌜ r ≡ counted (now (self .entry)) size ⌝ }
     {
         if self.reach <= size { self.count } else { 0 }
     }
 
     // Where page `page` of the layer lies in a store of `size` pages.
-    pub fn place(&self, page: u16, size: u16) -> Result<u16, StoreFault>
+    pub(crate) fn place(&self, page: u16, size: u16) -> Result<u16, StoreFault>
         ensures { λ r. ⌜ Finds (now (self .entry)) size page r ⌝ }
     {
         if page == 0 || page > self.count_over(size) {

@@ -1,5 +1,5 @@
-use Rattle.paths.proofs.WithdrawKept.{next-law, refused-law}
+use Rattle.paths.proofs.WithdrawKept.{withdraw-keeps, withdraw-frees, withdraw-keeps-old}
 use Rattle.paths.proofs.withdraw.withdraw_stands.Needs as need
 
 pub returns : need.returns
-returns c = record { next = next-law; refused = refused-law }
+returns c = record { next = withdraw-keeps; free = withdraw-frees; refused = withdraw-keeps-old }
