@@ -3,6 +3,7 @@ ghost use mathlib.Core.Path.{_≡_};
 ghost use Rattle.std.specs.Of.Vec.{vec-items};
 ghost use Rattle.std.specs.Results.{Cases};
 ghost use Rattle.std.specs.declared.option.Option.the-variants.{Some, None};
+ghost use Rattle.script.specs.Grammar.{QuestionIs, FirstIs};
 ghost use Rattle.script.specs.Numbers.{NumberIs};
 ghost use Rattle.script.specs.Words.{texts, Numbers, NoNumbers, Written, NoPoint, Ends, NoBox};
 ghost use Rattle.script.specs.declared.reason.Reason.the-variants.{Number as isNumber};
@@ -68,9 +69,15 @@ pub fn parse_box(heap: Global, words: &[&str], n: u8) -> Result<QueryBox, Troubl
     }
 }
 
-fn parse_first(heap: Global, words: &[&str], n: u8) -> Result<Question, Trouble> {
+fn parse_first(heap: Global, words: &[&str], n: u8) -> Result<Question, Trouble>
+    ensures { λ r. ⌜ FirstIs n (texts (now (words .entry))) r ⌝ }
+{
     let len = words.len();
-    if len < 2 || words[len - 2] != "from" {
+    if len < 2 {
+        return Err(Trouble::Unclear(Reason::Words));
+    }
+    let is_from = words[len - 2] == "from";
+    if !is_from {
         return Err(Trouble::Unclear(Reason::Words));
     }
     let start = parse_number(words[len - 1], u64::MAX)?;
@@ -84,7 +91,9 @@ pub fn parse_question(
     verb: &str,
     words: &[&str],
     n: u8,
-) -> Result<Option<Question>, Trouble> {
+) -> Result<Option<Question>, Trouble>
+    ensures { λ r. ⌜ QuestionIs n (now (verb .entry)) (texts (now (words .entry))) r ⌝ }
+{
     if verb == "address" {
         return Ok(Some(Question::AddressOf(parse_point(heap, words, n)?)));
     }
