@@ -1,0 +1,5 @@
+pub mod Moves
+pub mod Writes
+pub mod Surveying
+pub mod Stores
+pub mod Accesses

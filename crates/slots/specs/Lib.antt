@@ -1,0 +1,4 @@
+pub mod Slot
+pub mod Sizes
+pub mod Survey
+pub mod Making
