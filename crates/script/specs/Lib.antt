@@ -1,2 +1,4 @@
 pub mod Numbers
 pub mod Questions
+pub mod Words
+pub mod Grammar

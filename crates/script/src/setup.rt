@@ -20,6 +20,8 @@ pub enum Setup<'a> {
     Memory(u16, u8),
     // the bytes of a file
     Image(&'a str),
+    // so many pages, over one slot more
+    Slot(u16),
     Turned,
     // the pages to leave out
     Skip(Vec<u16>),
@@ -73,6 +75,12 @@ fn parse_store<'a>(words: &[&'a str]) -> Result<Setup<'a>, Trouble> {
             return Err(Trouble::Unclear(Reason::Words));
         };
         return Ok(Setup::Image(file));
+    }
+    if *kind == "slot" {
+        let [pages] = rest else {
+            return Err(Trouble::Unclear(Reason::Words));
+        };
+        return Ok(Setup::Slot(parse_number(pages, 65535)? as u16));
     }
     Err(Trouble::Unclear(Reason::Command))
 }

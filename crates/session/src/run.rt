@@ -8,6 +8,8 @@ use crate::session::Session;
 use crate::stores::set_store;
 use pages::memory::MemoryPages;
 use pages::memory::MemoryStore;
+use slots::store::SlotStore;
+use slots::store::access::SlotPages;
 use std::error::AnyError;
 
 fn run_over(
@@ -19,6 +21,9 @@ fn run_over(
     match memory {
         Memory::Bytes(bytes) => {
             run_bare(rt, session, MemoryStore::over(bytes.as_mut_slice()), lines)
+        }
+        Memory::Slots(slots, pages) => {
+            run_bare(rt, session, SlotStore::over(slots.as_mut_slice(), *pages), lines)
         }
     }
 }

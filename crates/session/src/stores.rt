@@ -1,10 +1,12 @@
 // The first part of a script: the order and the store.
+use crate::answer::making_text;
 use crate::answer::refusal_text;
 use crate::hear::Heard;
 use crate::hear::hear;
 use crate::hear::say;
 use crate::hear::say_unclear;
 use crate::memory::Memory;
+use crate::memory::blank_slots;
 use crate::memory::filled;
 use crate::session::Chosen;
 use crate::session::Session;
@@ -12,6 +14,7 @@ use orders::space::Space;
 use script::reason::Reason;
 use script::setup::OrderKind;
 use script::setup::Setup;
+use slots::store::making::slots_allowed;
 use std::error::AnyError;
 use std::fs;
 
@@ -62,6 +65,18 @@ fn read_image(rt: &LibcRuntime, echo: &String, file: &str) -> Result<Step<Memory
     }
 }
 
+fn make_slots(rt: &LibcRuntime, echo: &String, pages: u16) -> Result<Step<Memory>, AnyError> {
+    let slots = blank_slots(rt.alloc(), pages)?;
+    match slots_allowed(slots.as_slice(), pages) {
+        Ok(()) => say(rt, echo, "ok")?,
+        Err(fault) => {
+            let text = making_text(rt.alloc(), fault)?;
+            say(rt, echo, text.as_str())?;
+        }
+    }
+    Ok(Step::Made(Memory::Slots(slots, pages)))
+}
+
 fn store_line(
     rt: &LibcRuntime,
     session: &mut Session,
@@ -80,6 +95,7 @@ fn store_line(
             Ok(Step::Made(filled(rt.alloc(), pages, byte)?))
         }
         Heard::Setup(Setup::Image(file)) => read_image(rt, &echo, file),
+        Heard::Setup(Setup::Slot(pages)) => make_slots(rt, &echo, pages),
         _ => Ok(Step::Over),
     }
 }
