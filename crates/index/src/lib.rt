@@ -6,6 +6,7 @@ pub mod index;
 mod located;
 pub mod lodge;
 pub mod open;
+pub mod parts;
 mod sealing;
 mod settled;
 pub mod tally;
