@@ -1,6 +1,6 @@
 // Why a line has no other answer: it is refused by a number, or not understood, or memory is short.
 ghost use mathlib.Core.Path.{_≡_};
-ghost use Rattle.script.specs.declared.trouble.Trouble.the-variants.{Refused as isRefused, Unclear as isUnclear, Memory as isMemory};
+ghost use Rattle.script.specs.declared.trouble.Trouble.the-variants.{Unclear as isUnclear, Memory as isMemory};
 use crate::reason::Reason;
 use orders::refusal::Refusal;
 use std::alloc::AllocError;
@@ -11,14 +11,6 @@ pub enum Trouble {
     Refused(Refusal),
     Unclear(Reason),
     Memory,
-}
-
-pub impl From<Refusal> for Trouble as TroubleFromRefusal {
-    ghost converts = { λ e r. r ≡ isRefused e };
-
-    fn from(e: Refusal) -> Trouble {
-        Trouble::Refused(e)
-    }
 }
 
 pub impl From<Reason> for Trouble as TroubleFromReason {
