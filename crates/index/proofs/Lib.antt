@@ -12,3 +12,9 @@ pub mod Settling
 pub mod Heading
 pub mod Opened
 pub mod Lodging
+pub mod LawsBlank
+pub mod LawsCounts
+pub mod LawsKept
+pub mod LawsHistories
+pub mod LawsWitness
+pub mod LawsFirst

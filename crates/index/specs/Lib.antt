@@ -9,3 +9,7 @@ pub mod Located
 pub mod Changes
 pub mod Opening
 pub mod Steps
+pub mod Histories
+pub mod LawsSteps
+pub mod LawsWitness
+pub mod LawsFirst

@@ -3,6 +3,7 @@ pub mod calls;
 mod freed;
 mod head;
 pub mod index;
+pub mod laws;
 mod located;
 pub mod lodge;
 pub mod open;

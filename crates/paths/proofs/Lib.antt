@@ -12,6 +12,7 @@ pub mod LodgeEdits
 pub mod LodgeClimbing
 pub mod LodgeTracing
 pub mod LodgeRooting
+pub mod LodgeAlone
 pub mod LodgeKeeping
 pub mod WithdrawEditing
 pub mod WithdrawWriting

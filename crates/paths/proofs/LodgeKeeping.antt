@@ -28,10 +28,11 @@ use Rattle.paths.specs.LodgeRules.Denied.{full, high, few}
 use Rattle.paths.specs.LodgeRules.Unlodged.{denied, cut}
 use Rattle.paths.specs.LodgeTree.{Copied-to, Lodged-by}
 use Rattle.paths.specs.LodgeKept.{Lodge-allowed, Lodge-done, Lodges, Lodge-is, lodge-needs, events-at, Lodge-next-law, Lodge-refused-law, Lodge-free-law}
-use Rattle.paths.proofs.PathsWriting.{accepts-charge}
+use Rattle.paths.proofs.PathsWriting.{accepts-charge, after-none}
 use Rattle.paths.proofs.PathsMemory.{kept-after, kept-read}
 use Rattle.paths.proofs.PathsKept.{misread-kept, at-kept, leaf-count}
-use Rattle.paths.proofs.PathsCopying.{only-short}
+use Rattle.paths.proofs.PathsCopying.{only-short, read-alone}
+use Rattle.paths.proofs.LodgeAlone.{lodge-alone}
 use Rattle.paths.proofs.LodgeClimbing.{allowed-same, denied-same}
 
 lodge-copies : (m : Image) (limit total top : ℕ) (s : State) (a : ℕ) → Kept (contents m) limit total top s → a ≤ top → Lodge-allowed s a
@@ -115,11 +116,12 @@ pub lodge-is : (m m′ : Image) (root height a : ℕ) (free : List ℕ) (r : Res
 lodge-is m m′ root height a free r h v = record {
   always = λ _. v;
   above = λ l. absurd (omega arith);
+  alone = lodge-alone m m′ height root a free r v;
   kept = λ limit total top s k e t _. lodges m m′ root height a free limit total top s r v k e t;
 }
 
 pub lodge-above : (m : Image) (root height a : ℕ) (free : List ℕ) → 6 < height → Lodge-is m root height a free (Err HeightFull) m
-lodge-above m root height a free h = record { always = λ l. absurd (omega arith); above = λ _. (refl, refl); kept = λ limit total top s k e t l. absurd (omega arith) }
+lodge-above m root height a free h = record { always = λ l. absurd (omega arith); above = λ _. (refl, refl); alone = read-alone m m 0 free (after-none m); kept = λ limit total top s k e t l. absurd (omega arith) }
 
 pub lodge-keeps : Lodge-next-law
 lodge-keeps m m′ limit total top s a g k t d =

@@ -35,7 +35,7 @@ written-append : (xs ys : List Write) → tree.written (xs ++ ys) ≡ tree.writt
 written-append [] ys = refl
 written-append (x ∷ xs) ys = ap (λ (z : List ℕ). x .page ∷ z) (written-append xs ys)
 
-stays : (ws : List Write) (m : Image) (p : ℕ) → Accepts ws m → 1 ≤ p → Absent p (tree.written ws) → at (stored ws m) p ≡ at m p
+pub stays : (ws : List Write) (m : Image) (p : ℕ) → Accepts ws m → 1 ≤ p → Absent p (tree.written ws) → at (stored ws m) p ≡ at m p
 stays [] m p a o n = refl
 stays (w ∷ ws) m p a o n =
     stays ws (written m (w .page) (encoded (w .says))) p (a .3) o (n .1)

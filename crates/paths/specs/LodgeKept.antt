@@ -15,6 +15,7 @@ use Rattle.faults.specs.Accesses.{contents}
 use Rattle.paths.specs.declared.copied.Copied.{Copied}
 use Rattle.paths.specs.PathsWrites.{Wrote, Writes-run-out, after-reads}
 use Rattle.paths.specs.PathsReading.{Runs-out, Kept-at, back}
+use Rattle.paths.specs.PathsCopies.{Leaves-alone}
 use Rattle.paths.specs.LodgeRules.{Allowed}
 use Rattle.paths.specs.LodgeTree.{Lodged-by}
 
@@ -58,10 +59,11 @@ Lodges m s a (Err OtherOrder) m′ = ⊥
 Lodges m s a (Err (Unsound p r)) m′ = ⊥
 Lodges m s a (Err NoEvent) m′ = ⊥
 
--- for every memory; for heights above 6, which no tree has; and for every kept state
+-- for every memory; for heights above 6, which no tree has; what is left alone; and for every kept state
 pub record Lodge-is (m : Image) (root height a : ℕ) (free : List ℕ) (r : Result Copied Fault) (m′ : Image) : Type 0 where
   pub always : height ≤ 6 → Lodged-by m height root a free r m′
   pub above : 6 < height → (r ≡ Err HeightFull) × (m′ ≡ m)
+  pub alone : Leaves-alone m free m′
   pub kept : (limit total top : ℕ) (s : State) → Kept-at m root height limit total top s → free ≡ s .free → a ≤ top → height ≤ 6 → Lodges m s a r m′
 
 -- where it is accepted, the step's state is kept in the store, with one event more

@@ -23,7 +23,12 @@ fn run_over(
             run_bare(rt, session, MemoryStore::over(bytes.as_mut_slice()), lines)
         }
         Memory::Slots(slots, pages) => {
-            run_bare(rt, session, SlotStore::over(slots.as_mut_slice(), *pages), lines)
+            run_bare(
+                rt,
+                session,
+                SlotStore::over(slots.as_mut_slice(), *pages),
+                lines,
+            )
         }
     }
 }

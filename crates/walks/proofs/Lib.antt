@@ -3,3 +3,5 @@ mod Judging
 mod ScanLoop
 mod ScanEnd
 pub mod AfterScan
+mod LeafFinds
+mod PageWalk

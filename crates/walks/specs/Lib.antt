@@ -1,3 +1,5 @@
 pub mod Pending
 pub mod Visits
 pub mod Scans
+pub mod Finds
+pub mod Walking
