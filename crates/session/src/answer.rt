@@ -129,7 +129,10 @@ pub fn refused_text(heap: Global, fault: Fault) -> Result<String, AllocError> {
             let page = access.page;
             let level = access.level;
             let own = fault_text(access.fault);
-            format!(heap, "refused {number} page {page} level {level} {own}: {why}")
+            format!(
+                heap,
+                "refused {number} page {page} level {level} {own}: {why}"
+            )
         }
         Fault::Unsound(page, rule) => {
             let letter = rule_text(rule);
