@@ -1,2 +1,3 @@
 pub mod EightByEight
 pub mod Branch
+pub mod SlotRows
