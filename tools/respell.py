@@ -18,7 +18,7 @@ os.chdir(TOP)
 CRATES = [line.split(":")[0].split()[0] for line in open("crates.txt") if line.strip() and not line.startswith("#")]
 WORD = r"[^\s(){}.;,@\"«»]+"
 TOKEN = re.compile(WORD)
-USE = re.compile(r"\buse Rattle\.([^\s;{]+?)(?:\.?\{([^}]*)\}| as (\S+))")
+USE = re.compile(r"\buse Rattle\.([^\s;{]+?)(?:\.?\{([^}]*)\}| as (\S+)|(?=;|[ \t]*$))", re.M)
 HEAD = re.compile(r"^(?:(?:abbrev|unfoldable|pub|mutual) )*((?:data|record) (?:pub )?)?(" + WORD + r")(?= )")
 FIELD = re.compile(r"^\s+(?:pub )?((?:" + WORD + r" )+):")
 # Names that would fall together with another when respelled, and three that port.py gave a capital although they are no facts.
@@ -165,7 +165,8 @@ def scope_of(f, text):
                 new = respelled(own, "type" if old[:1].isupper() else "word")
                 if new != own:
                     table[own] = new
-        if alias and alias != "goal" and not names:
+        alias = alias or path.split(".")[-1]
+        if alias != "goal" and not names:
             for old, new in known.items():
                 table[alias + "." + old] = new
     return table
@@ -183,7 +184,7 @@ def turned(f, text, table):
                 before = re.search(r"(" + WORD + r")\.$", code[:start])
                 if before and before[1] + "." + word in table:
                     return table[before[1] + "." + word]
-                if before and before[1] in ("goal", "g"):
+                if before and before[1] == "goal":
                     return word
                 return FIELDS.get(word, word)
             if word in table:
@@ -204,7 +205,7 @@ def main():
         tokens = set(TOKEN.findall("\n".join(code_of(x, "--" if f.endswith(".antt") else "//")[0] for x in TEXT[f].split("\n"))))
         for old, new in table.items():
             rivals = [o for o, n in table.items() if n == new and o != old and "." not in o]
-            if (new in tokens and "." not in old) or rivals:
+            if "." not in old and (new in tokens or rivals):
                 print(f"falls together: {f}: {old} -> {new} {rivals}")
         changed[f] = turned(f, TEXT[f], table)
     for edit in sorted(glob.glob("crates/*/must-fail/*.edit")):

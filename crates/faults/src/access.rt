@@ -10,7 +10,7 @@ pub fn fetch<S: PageStore>(
     level: u8,
     into: &mut [u8; 128],
 ) -> Result<(), ReadRefused>
-    ensures { Fetches (meaning store.old) page level into.old result (meaning store.new) into.new }
+    ensures { Fetches (S.meaning store.old) page level into.old result (S.meaning store.new) into.new }
 {
     match store.read(page, into) {
         Ok(()) => Ok(()),
@@ -26,7 +26,7 @@ pub fn put<S: PageStore>(
     level: u8,
     from: &[u8; 128],
 ) -> Result<(), WriteRefused>
-    ensures { Stores (meaning store.old) page level from.now result (meaning store.new) }
+    ensures { Stores (S.meaning store.old) page level from.now result (S.meaning store.new) }
 {
     match store.write(page, from) {
         Ok(()) => Ok(()),

@@ -12,7 +12,7 @@ use pages::store::PageStore;
 
 // Whether a header is of this order: its kind, n and p.
 fn is_ours<O: PointOrder>(order: &O, header: &Header) -> bool
-    ensures { Decides result (Ours (meaning order.now) header.now) }
+    ensures { Decides result (Ours (O.meaning order.now) header.now) }
 {
     header.kind == order.kind() && header.n == order.n() && header.p == order.p()
 }
@@ -37,7 +37,7 @@ pub(crate) fn read_head<S: PageStore, O: PointOrder>(
 
 // The greatest address.
 pub(crate) fn top_of<O: PointOrder>(order: &O) -> u64
-    ensures { result ≡ top (meaning order.now) }
+    ensures { result ≡ top (O.meaning order.now) }
 {
     let bits = order.n() as u32 * order.p() as u32;
     (1u64 << bits) - 1

@@ -68,18 +68,18 @@ pub fn row_order(space: Space) -> RowOrder
 }
 
 impl<R: BitRule> PointOrder for Interleaved<R> {
-    ghost meaning = { λ s. order_of (R.BitRule.kindOf s.rule) (R.BitRule.spaceOf s.rule) (R.BitRule.turnOf s.rule) };
+    ghost meaning = { λ s. order_of (R.BitRule.kind_of s.rule) (R.BitRule.space_of s.rule) (R.BitRule.turn_of s.rule) };
 
     ghost lawful = { λ s.
         let o = R.BitRule in
         let d = s.rule in
-        let sp = o.spaceOf d in
+        let sp = o.space_of d in
         let S = R.BitRule.deals d in
         record {
           kinds = R.BitRule.kinds d;
           range = S.range;
-          there = there sp.n sp.p (o.turnOf d) (o.usedOf d) S;
-          back = back sp.n sp.p (o.turnOf d) (o.usedOf d) S;
+          there = there sp.n sp.p (o.turn_of d) (o.used_of d) S;
+          back = back sp.n sp.p (o.turn_of d) (o.used_of d) S;
         } };
 
     fn kind(&self) -> u8 {

@@ -10,36 +10,36 @@ use crate::space::{QueryBox, Space};
 
 // A rule says whose bit comes next, from the top of the address down.
 pub trait BitRule {
-    ghost kindOf: { Self → ℕ };
+    ghost kind_of: { Self → ℕ };
 
-    ghost spaceOf: { Self → Space };
+    ghost space_of: { Self → Space };
 
-    ghost turnOf: { Self → ℕ → ℕ };
+    ghost turn_of: { Self → ℕ → ℕ };
 
-    ghost usedOf: { Self → ℕ → ℕ → ℕ };
+    ghost used_of: { Self → ℕ → ℕ → ℕ };
 
     fn kind(&self) -> u8
-        ensures { result ≡ kindOf self.now };
+        ensures { result ≡ kind_of self.now };
 
     fn space(&self) -> Space
-        ensures { result ≡ spaceOf self.now };
+        ensures { result ≡ space_of self.now };
 
     // the coordinate that the bit t of an address, from the top, belongs to; 0 past the last bit
     fn turn(&self, t: u32) -> usize
-        ensures { ((t < bits_of (spaceOf self.now) → result ≡ turnOf self.now t)) × (result < 4) };
+        ensures { ((t < bits_of (space_of self.now) → result ≡ turn_of self.now t)) × (result < 4) };
 
     // how many of the first t bits of an address are the coordinate j's
     fn used(&self, j: usize, t: u32) -> u32
-        ensures { ((j < 4 → t ≤ bits_of (spaceOf self.now) → result ≡ usedOf self.now j t)) × (result ≤ 15) };
+        ensures { ((j < 4 → t ≤ bits_of (space_of self.now) → result ≡ used_of self.now j t)) × (result ≤ 15) };
 
-    ghost kinds: { (s : Self) → (1 ≤ kindOf s) × (kindOf s ≤ 255) };
+    ghost kinds: { (s : Self) → (1 ≤ kind_of s) × (kind_of s ≤ 255) };
 
-    ghost deals: { (s : Self) → Schedule (spaceOf s).n (spaceOf s).p (turnOf s) (usedOf s) };
+    ghost deals: { (s : Self) → Schedule (space_of s).n (space_of s).p (turn_of s) (used_of s) };
 }
 
 fn address_by<R: BitRule>(s: &R, t: u32, x: [u16; 4]) -> u64
-    requires { t ≤ bits_of (spaceOf s.now) }
-    ensures { (result ≡ address_of (turnOf s.now) t x) × (result < 2 ^ t) }
+    requires { t ≤ bits_of (R.space_of s.now) }
+    ensures { (result ≡ address_of (R.turn_of s.now) t x) × (result < 2 ^ t) }
 {
     if t == 0 {
         return 0;
@@ -51,8 +51,8 @@ fn address_by<R: BitRule>(s: &R, t: u32, x: [u16; 4]) -> u64
 }
 
 fn point_by<R: BitRule>(s: &R, t: u32, a: u64) -> [u16; 4]
-    requires { t ≤ bits_of (spaceOf s.now) }
-    ensures { result ≡ point_at (turnOf s.now) t a }
+    requires { t ≤ bits_of (R.space_of s.now) }
+    ensures { result ≡ point_at (R.turn_of s.now) t a }
 {
     if t == 0 {
         return [0; 4];
@@ -65,8 +65,8 @@ fn point_by<R: BitRule>(s: &R, t: u32, a: u64) -> [u16; 4]
 
 // How many bits the coordinate j still lacks behind the first t.
 fn lacks<R: BitRule>(s: &R, j: usize, t: u32) -> u32
-    requires { (j < 4) × (t ≤ bits_of (spaceOf s.now)) }
-    ensures { (result ≡ lacking (bits_of (spaceOf s.now)) (usedOf s.now) t j) × (result ≤ 15) }
+    requires { (j < 4) × (t ≤ bits_of (R.space_of s.now)) }
+    ensures { (result ≡ lacking (bits_of (R.space_of s.now)) (R.used_of s.now) t j) × (result ≤ 15) }
 {
     let all = s.used(j, s.space().bits());
     let past = s.used(j, t);
@@ -75,9 +75,9 @@ fn lacks<R: BitRule>(s: &R, j: usize, t: u32) -> u32
 
 // Whether the block at q, behind t bits, has a point in common with the box.
 fn touches<R: BitRule>(s: &R, t: u32, q: [u16; 4], lo: [u16; 4], hi: [u16; 4]) -> bool
-    requires { t ≤ bits_of (spaceOf s.now) }
-    ensures yes { result ≡ true → Touches (lacking (bits_of (spaceOf s.now)) (usedOf s.now) t) lo hi q }
-    ensures never { result ≡ false → Touches (lacking (bits_of (spaceOf s.now)) (usedOf s.now) t) lo hi q → ⊥ }
+    requires { t ≤ bits_of (R.space_of s.now) }
+    ensures yes { result ≡ true → Touches (lacking (bits_of (R.space_of s.now)) (R.used_of s.now) t) lo hi q }
+    ensures never { result ≡ false → Touches (lacking (bits_of (R.space_of s.now)) (R.used_of s.now) t) lo hi q → ⊥ }
 {
     for j in 0..4usize {
         let k = lacks(s, j, t);
@@ -100,8 +100,8 @@ fn first_by<R: BitRule>(
     hi: [u16; 4],
     from: u64,
 ) -> Option<u64>
-    requires { (left ≤ bits_of (spaceOf s.now)) × ((c < 2 ^ (bits_of (spaceOf s.now) - left)) × (q ≡ point_at (turnOf s.now) (bits_of (spaceOf s.now) - left) c)) }
-    ensures { Least result (Hit (bits_of (spaceOf s.now)) (turnOf s.now) lo hi from left c) }
+    requires { (left ≤ bits_of (R.space_of s.now)) × ((c < 2 ^ (bits_of (R.space_of s.now) - left)) × (q ≡ point_at (R.turn_of s.now) (bits_of (R.space_of s.now) - left) c)) }
+    ensures { Least result (Hit (bits_of (R.space_of s.now)) (R.turn_of s.now) lo hi from left c) }
 {
     let t = s.space().bits() - left;
     if !touches(s, t, q, lo, hi) {
@@ -125,7 +125,7 @@ fn first_by<R: BitRule>(
 }
 
 pub fn address_in<R: BitRule>(s: &R, x: Point) -> Option<u64>
-    ensures { AddressIs (order_of (kindOf s.now) (spaceOf s.now) (turnOf s.now)) x.coords result }
+    ensures { AddressIs (order_of (R.kind_of s.now) (R.space_of s.now) (R.turn_of s.now)) x.coords result }
 {
     if !s.space().contains(x) {
         return None;
@@ -134,7 +134,7 @@ pub fn address_in<R: BitRule>(s: &R, x: Point) -> Option<u64>
 }
 
 pub fn point_in<R: BitRule>(s: &R, a: u64) -> Option<Point>
-    ensures { PointIs (order_of (kindOf s.now) (spaceOf s.now) (turnOf s.now)) a result }
+    ensures { PointIs (order_of (R.kind_of s.now) (R.space_of s.now) (R.turn_of s.now)) a result }
 {
     let k = s.space().bits();
     if (a >> k) != 0 {
@@ -145,7 +145,7 @@ pub fn point_in<R: BitRule>(s: &R, a: u64) -> Option<Point>
 }
 
 pub fn first_in<R: BitRule>(s: &R, b: &QueryBox, from: u64) -> Option<u64>
-    ensures { FirstIs (order_of (kindOf s.now) (spaceOf s.now) (turnOf s.now)) b.now.low.coords b.now.high.coords from result }
+    ensures { FirstIs (order_of (R.kind_of s.now) (R.space_of s.now) (R.turn_of s.now)) b.now.low.coords b.now.high.coords from result }
 {
     let space = s.space();
     let low = b.low();

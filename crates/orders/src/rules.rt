@@ -20,13 +20,13 @@ pub struct RowRule {
 }
 
 impl BitRule for ZRule {
-    ghost kindOf = { λ _. 1 };
+    ghost kind_of = { λ _. 1 };
 
-    ghost spaceOf = { λ s. s.space };
+    ghost space_of = { λ s. s.space };
 
-    ghost turnOf = { λ s. z_turn s.space.n };
+    ghost turn_of = { λ s. z_turn s.space.n };
 
-    ghost usedOf = { λ s. z_used s.space.n };
+    ghost used_of = { λ s. z_used s.space.n };
 
     ghost kinds = { Prim.search rules };
 
@@ -56,13 +56,13 @@ impl BitRule for ZRule {
 }
 
 impl BitRule for RowRule {
-    ghost kindOf = { λ _. 2 };
+    ghost kind_of = { λ _. 2 };
 
-    ghost spaceOf = { λ s. s.space };
+    ghost space_of = { λ s. s.space };
 
-    ghost turnOf = { λ s. row_turn s.space.p };
+    ghost turn_of = { λ s. row_turn s.space.p };
 
-    ghost usedOf = { λ s. row_used s.space.p };
+    ghost used_of = { λ s. row_used s.space.p };
 
     ghost kinds = { Prim.search rules };
 

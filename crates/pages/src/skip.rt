@@ -37,7 +37,7 @@ impl<S: PageStore> Skip<S> {
     // Puts the layer on a store. Where the list is not allowed it has no page.
     pub fn over(below: S, bad: &[u16]) -> Skip<S>
         ensures below { result.below ≡ below }
-        ensures made { Skips bad.now (meaning below) (seen result.table (meaning result.below)) }
+        ensures made { Skips bad.now (S.meaning below) (seen result.table (S.meaning result.below)) }
     {
         let table = match SkipTable::without(bad, below.size()) {
             Some(table) => table,

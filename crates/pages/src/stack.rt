@@ -16,8 +16,8 @@ pub fn read_back<S: PageStore>(
     page: u16,
     into: &mut [u8; 128],
 ) -> Result<(), StoreFault>
-    ensures read { Reads (meaning store.old) page into.old result (meaning store.new) into.new }
-    ensures law { ReadsBack (meaning store.old) page result (meaning store.new) into.new }
+    ensures read { Reads (S.meaning store.old) page into.old result (S.meaning store.new) into.new }
+    ensures law { ReadsBack (S.meaning store.old) page result (S.meaning store.new) into.new }
 {
     store.read(page, into)
 }
@@ -28,7 +28,7 @@ pub fn read_back_turned_skip<S: PageStore>(
     page: u16,
     into: &mut [u8; 128],
 ) -> Result<(), StoreFault>
-    ensures { ReadsBack (turned (seen stack.old.below.table (meaning stack.old.below.below))) page result (turned (seen stack.new.below.table (meaning stack.new.below.below))) into.new }
+    ensures { ReadsBack (turned (seen stack.old.below.table (S.meaning stack.old.below.below))) page result (turned (seen stack.new.below.table (S.meaning stack.new.below.below))) into.new }
 {
     read_back(stack, page, into)
 }
@@ -39,7 +39,7 @@ pub fn read_back_skip_turned<S: PageStore>(
     page: u16,
     into: &mut [u8; 128],
 ) -> Result<(), StoreFault>
-    ensures { ReadsBack (seen stack.old.table (turned (meaning stack.old.below.below))) page result (seen stack.new.table (turned (meaning stack.new.below.below))) into.new }
+    ensures { ReadsBack (seen stack.old.table (turned (S.meaning stack.old.below.below))) page result (seen stack.new.table (turned (S.meaning stack.new.below.below))) into.new }
 {
     read_back(stack, page, into)
 }
@@ -50,7 +50,7 @@ pub fn read_back_turned_turned<S: PageStore>(
     page: u16,
     into: &mut [u8; 128],
 ) -> Result<(), StoreFault>
-    ensures { ReadsBack (turned (turned (meaning stack.old.below.below))) page result (turned (turned (meaning stack.new.below.below))) into.new }
+    ensures { ReadsBack (turned (turned (S.meaning stack.old.below.below))) page result (turned (turned (S.meaning stack.new.below.below))) into.new }
 {
     read_back(stack, page, into)
 }
@@ -61,7 +61,7 @@ pub fn read_back_skip_skip<S: PageStore>(
     page: u16,
     into: &mut [u8; 128],
 ) -> Result<(), StoreFault>
-    ensures { ReadsBack (seen stack.old.table (seen stack.old.below.table (meaning stack.old.below.below))) page result (seen stack.new.table (seen stack.new.below.table (meaning stack.new.below.below))) into.new }
+    ensures { ReadsBack (seen stack.old.table (seen stack.old.below.table (S.meaning stack.old.below.below))) page result (seen stack.new.table (seen stack.new.below.table (S.meaning stack.new.below.below))) into.new }
 {
     read_back(stack, page, into)
 }

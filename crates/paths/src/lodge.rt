@@ -60,7 +60,7 @@ fn lodge_leaf<S: PageStore>(
 ) -> Result<Placed, Fault>
     requires short { length (entries list.old) ≤ 10 }
     requires few { plan.base + plan.extra ≤ 1000 }
-    ensures { Leafed (meaning store.old) (entries list.old) address (numbers free.now) plan result (meaning store.new) }
+    ensures { Leafed (S.meaning store.old) (entries list.old) address (numbers free.now) plan result (S.meaning store.new) }
 {
     if count_in(list, address) >= 65535 {
         return Err(Fault::CountFull);
@@ -85,8 +85,8 @@ fn lodge_at<S: PageStore>(
     requires low { level ≤ plan.base }
     requires six { level ≤ 6 }
     requires few { plan.base + plan.extra + level ≤ 1000 }
-    ensures lodges { Lodged (meaning store.old) level page address (numbers free.now) plan result (meaning store.new) }
-    ensures path { Traced (meaning store.old) level page address result path.new }
+    ensures lodges { Lodged (S.meaning store.old) level page address (numbers free.now) plan result (S.meaning store.new) }
+    ensures path { Traced (S.meaning store.old) level page address result path.new }
 {
     let mut list = read_page(store, page, level)?;
     if level == 1 {
@@ -111,7 +111,7 @@ fn new_root<S: PageStore>(
 ) -> Result<Copied, Fault>
     requires enough { placed.used + 1 ≤ length (numbers free.now) }
     requires low { height ≤ 6 }
-    ensures { Roots (meaning store.old) height (pages_in placed.pages) (numbers free.now) placed.used path result (meaning store.new) }
+    ensures { Roots (S.meaning store.old) height (pages_in placed.pages) (numbers free.now) placed.used path result (S.meaning store.new) }
 {
     match placed.pages {
         ChildPages::One(page) => Ok(Copied {
@@ -147,7 +147,7 @@ fn first_leaf<S: PageStore>(
     address: u64,
     free: &FreeList,
 ) -> Result<Copied, Fault>
-    ensures { LodgedBy (meaning store.old) 0 root address (numbers free.now) result (meaning store.new) }
+    ensures { LodgedBy (S.meaning store.old) 0 root address (numbers free.now) result (S.meaning store.new) }
 {
     if free.len() < 7 {
         return Err(Fault::Room);
@@ -178,7 +178,7 @@ fn lodge_tree<S: PageStore>(
     free: &FreeList,
 ) -> Result<Copied, Fault>
     requires { height ≤ 6 }
-    ensures { LodgedBy (meaning store.old) height root address (numbers free.now) result (meaning store.new) }
+    ensures { LodgedBy (S.meaning store.old) height root address (numbers free.now) result (S.meaning store.new) }
 {
     if height == 0 {
         return first_leaf(store, root, address, free);
@@ -203,7 +203,7 @@ pub fn lodge<S: PageStore>(
     address: u64,
     free: &FreeList,
 ) -> Result<Copied, Fault>
-    ensures { LodgeIs (meaning store.old) root height address (numbers free.now) result (meaning store.new) }
+    ensures { LodgeIs (S.meaning store.old) root height address (numbers free.now) result (S.meaning store.new) }
 {
     if height > 6 {
         return Err(Fault::HeightFull);

@@ -30,7 +30,7 @@ pub(crate) fn read_page<S: PageStore>(
     page: u16,
     level: u8,
 ) -> Result<EntryList, Fault>
-    ensures { ReadsPage (meaning store.old) page level result (meaning store.new) }
+    ensures { ReadsPage (S.meaning store.old) page level result (S.meaning store.new) }
 {
     let mut bytes = [0; 128];
     fetch(store, page, level, &mut bytes)?;
@@ -52,7 +52,7 @@ pub(crate) fn write_items<S: PageStore>(
     items: &[Entry],
 ) -> Result<(), Fault>
     requires { length items.now ≤ 10 }
-    ensures { WritesPage (meaning store.old) level page items.now result (meaning store.new) }
+    ensures { WritesPage (S.meaning store.old) level page items.now result (S.meaning store.new) }
 {
     let mut bytes = [0; 128];
     let _ = write_page(&mut bytes, level, page, items);
@@ -67,7 +67,7 @@ pub(crate) fn write_entries<S: PageStore>(
     list: &EntryList,
 ) -> Result<(), Fault>
     requires { length (entries list.now) ≤ 10 }
-    ensures { WritesPage (meaning store.old) level page (entries list.now) result (meaning store.new) }
+    ensures { WritesPage (S.meaning store.old) level page (entries list.now) result (S.meaning store.new) }
 {
     write_items(store, page, level, list.as_slice())
 }

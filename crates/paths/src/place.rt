@@ -29,7 +29,7 @@ pub(crate) fn place<S: PageStore>(
 ) -> Result<Placed, Fault>
     requires enough { used + 2 ≤ length (numbers free.now) }
     requires fits { Fits (halves_of (entries left.now) right) }
-    ensures { Places (meaning store.old) level (halves_of (entries left.now) right) (numbers free.now) used result (meaning store.new) }
+    ensures { Places (S.meaning store.old) level (halves_of (entries left.now) right) (numbers free.now) used result (S.meaning store.new) }
 {
     let first = free_at(free, used);
     write_entries(store, first, level, left)?;

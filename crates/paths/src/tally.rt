@@ -34,7 +34,7 @@ pub(crate) fn child_in(list: &EntryList, address: u64) -> u16
 
 // The count at an address, read down from a page. Level 0 is the empty tree.
 fn tally_at<S: PageStore>(store: &mut S, page: u16, level: u8, address: u64) -> Result<u16, Fault>
-    ensures { Tallied (meaning store.old) level page address result (meaning store.new) }
+    ensures { Tallied (S.meaning store.old) level page address result (S.meaning store.new) }
 {
     if level == 0 {
         return Ok(0);
@@ -49,7 +49,7 @@ fn tally_at<S: PageStore>(store: &mut S, page: u16, level: u8, address: u64) -> 
 // The count of an address in the tree at this root and height. Refused where the charge is below the height (9); in memory where no
 // tree is kept also where a page does not exist (8) or breaks a rule (12).
 pub fn tally<S: PageStore>(store: &mut S, root: u16, height: u8, address: u64) -> Result<u16, Fault>
-    ensures { TallyIs (meaning store.old) root height address result (meaning store.new) }
+    ensures { TallyIs (S.meaning store.old) root height address result (S.meaning store.new) }
 {
     tally_at(store, root, height, address)
 }

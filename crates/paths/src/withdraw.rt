@@ -26,7 +26,7 @@ fn place_left<S: PageStore>(
     requires few { length (entries list.now) ≤ 10 }
     requires low { used ≤ 6 }
     requires room { used < length (numbers free.now) }
-    ensures { PlacesLeft (meaning store.old) level (entries list.now) (numbers free.now) used result (meaning store.new) }
+    ensures { PlacesLeft (S.meaning store.old) level (entries list.now) (numbers free.now) used result (S.meaning store.new) }
 {
     if list.len() == 0 {
         return Ok(Left { page: None, used });
@@ -51,8 +51,8 @@ fn withdraw_at<S: PageStore>(
     requires one { 1 ≤ level }
     requires six { level ≤ 6 }
     requires room { level ≤ length (numbers free.now) }
-    ensures withdraws { Withdrawn (meaning store.old) level page address (numbers free.now) result (meaning store.new) }
-    ensures path { Traced (meaning store.old) level page address result path.new }
+    ensures withdraws { Withdrawn (S.meaning store.old) level page address (numbers free.now) result (S.meaning store.new) }
+    ensures path { Traced (S.meaning store.old) level page address result path.new }
 {
     let mut list = read_page(store, page, level)?;
     if level == 1 {
@@ -104,7 +104,7 @@ fn withdraw_path<S: PageStore>(
     address: u64,
     free: &FreeList,
 ) -> Result<Copied, Fault>
-    ensures { Withdrew (meaning store.old) height root address (numbers free.now) result (meaning store.new) }
+    ensures { Withdrew (S.meaning store.old) height root address (numbers free.now) result (S.meaning store.new) }
 {
     if height == 0 {
         return Err(Fault::NoEvent);
@@ -128,7 +128,7 @@ pub fn withdraw<S: PageStore>(
     address: u64,
     free: &FreeList,
 ) -> Result<Copied, Fault>
-    ensures { WithdrawIs (meaning store.old) root height address (numbers free.now) result (meaning store.new) }
+    ensures { WithdrawIs (S.meaning store.old) root height address (numbers free.now) result (S.meaning store.new) }
 {
     withdraw_path(store, root, height, address, free)
 }

@@ -24,7 +24,7 @@ pub enum Answer {
 
 // Asks the order.
 pub fn ask<O: PointOrder>(order: &O, question: Question) -> Answer
-    ensures { Answered (meaning order.now) question result }
+    ensures { Answered (O.meaning order.now) question result }
 {
     match question {
         Question::AddressOf(x) => match order.address(x) {

@@ -29,7 +29,7 @@ fn point_in_box<O: PointOrder>(
     start: u64,
     address: u64,
 ) -> Option<Point>
-    ensures { Passes (meaning order.now) query.now.low.coords query.now.high.coords start address result }
+    ensures { Passes (O.meaning order.now) query.now.low.coords query.now.high.coords start address result }
 {
     if address < start {
         return None;
@@ -54,7 +54,7 @@ pub(crate) fn put_finds<O: PointOrder>(
     entries: &[Entry],
     finds: &mut Tray<'_, Find>,
 ) -> Ending
-    ensures found { Finds (meaning order.now) query.now.low.coords query.now.high.coords start entries.now
+    ensures found { Finds (O.meaning order.now) query.now.low.coords query.now.high.coords start entries.now
         finds.old.memory.now finds.old.used result finds.new.memory.now finds.new.used }
     ensures lent { finds.new.memory.ghost_name ≡ finds.old.memory.ghost_name }
 {

@@ -25,7 +25,7 @@ fn reached(next: Option<u64>, end: u64) -> Option<u64>
 
 // The first address of the box past the end of a region.
 fn first_past<O: PointOrder>(order: &O, query: &QueryBox, end: u64) -> Option<u64>
-    ensures { FirstIs (meaning order.now) query.now.low.coords query.now.high.coords (suc end) result }
+    ensures { FirstIs (O.meaning order.now) query.now.low.coords query.now.high.coords (suc end) result }
 {
     if end == u64::MAX {
         return None;

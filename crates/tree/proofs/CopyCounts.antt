@@ -16,8 +16,8 @@ use Rattle.tree.proofs.CopyForests
 use Rattle.tree.proofs.CopyNumbers
 
 place_count : {A : Type 0} (page : ℕ → A → Node) (s : Split A) (ws : List Write) (free : List ℕ) → length (place page s ws free).writes ≡ suc (length ws) + parts s
-place_count page (one x) ws free = simp CopyNumbers.push-length (omega arith)
-place_count page (two x k y) ws free = simp CopyNumbers.push-length (omega arith)
+place_count page (one x) ws free = simp CopyNumbers.push_length (omega arith)
+place_count page (two x k y) ws free = simp CopyNumbers.push_length (omega arith)
 
 place_parts : {A : Type 0} (page : ℕ → A → Node) (s : Split A) (ws : List Write) (free : List ℕ) → parts (place page s ws free).part ≡ parts s
 place_parts page (one x) ws free = refl
@@ -27,17 +27,17 @@ two_leaves : (s : Split (List Entry)) (i n : ℕ) → CopyEntries.Sizes s i n �
 two_leaves (one x) i n z = absurd z
 two_leaves (two x k y) i n z = refl
 
-two_rows : (s : Split Forest) (i n : ℕ) → CopyForests.Sizes-rows s i n → parts s ≡ 1
+two_rows : (s : Split Forest) (i n : ℕ) → CopyForests.SizesRows s i n → parts s ≡ 1
 two_rows (one x) i n z = absurd z
 two_rows (two x k y) i n z = refl
 
 fit_parts : (es : List Entry) → parts (fit es) ≡ over_ten (length es)
 fit_parts es = by_le₂ (λ (s : Split (List Entry)) (n : ℕ). parts s ≡ n) (length es) 10 _ _ _ _ (λ le. refl)
-    (λ gt. two_leaves (cut 5 es) 5 (length es) (CopyEntries.cut-sizes 5 es (omega arith)))
+    (λ gt. two_leaves (cut 5 es) 5 (length es) (CopyEntries.cut_sizes 5 es (omega arith)))
 
 fit_in_parts : (f : Forest) → parts (fit_in f) ≡ over_ten (size f)
 fit_in_parts f = by_le₂ (λ (s : Split Forest) (n : ℕ). parts s ≡ n) (size f) 10 _ _ _ _ (λ le. refl)
-    (λ gt. two_rows (cut_in 5 f) 5 (size f) (CopyForests.cut-sizes 5 f (omega arith)))
+    (λ gt. two_rows (cut_in 5 f) 5 (size f) (CopyForests.cut_sizes 5 f (omega arith)))
 
 last_size : (s : Split Node) → size (as_last s) ≡ 1 + parts s
 last_size (one n) = refl
@@ -84,7 +84,7 @@ lost (held x) = 0
 
 place_left_count : {A : Type 0} (page : ℕ → A → Node) (s : Held A) (ws : List Write) (free : List ℕ) → length (place_left page s ws free).writes + lost s ≡ suc (length ws)
 place_left_count page none ws free = omega arith
-place_left_count page (held x) ws free = simp CopyNumbers.push-length (omega arith)
+place_left_count page (held x) ws free = simp CopyNumbers.push_length (omega arith)
 
 place_left_lost : {A : Type 0} (page : ℕ → A → Node) (s : Held A) (ws : List Write) (free : List ℕ) → lost (place_left page s ws free).part ≡ lost s
 place_left_lost page none ws free = refl

@@ -169,7 +169,7 @@ child_times (more n k f) a q =
 
 good_under : (p : ℕ) (c : Forest) (a : ℕ) (m : Contents) (q l : ℕ) → Good m (pages (child_for c a)) q l → Good m (p ∷ pages_in c) q l
 good_under p c a m q l g = record
-    { level_is = g.level-is; number_is = g.number_is; clean_is = g.clean_is; sized = g.sized; among = omega (arith, g.among, child_times c a q) }
+    { level_is = g.level_is; number_is = g.number_is; clean_is = g.clean_is; sized = g.sized; among = omega (arith, g.among, child_times c a q) }
 
 on_path : (l : ℕ) (n : Node) (m : Contents) (a d : ℕ) → Level n l → Filled n → Stands n m → d < l → Good m (pages n) (get_or (path_at l m (number n) a) d 0) (l - d)
 unfolding path_at
@@ -191,7 +191,7 @@ path_of_sound m limit h total top none a d s i = absurd (omega (arith, s.0))
 path_of_sound m limit h total top (held n) a d s i =
     let g = on_path h n m a d s.levels s.filled s.stands i in
     let r = times_of_all (λ (p : ℕ). (2 ≤ p) × (p ≤ limit)) (pages n) (get_or (path_at h m (number n) a) d 0) s.range g.among in
-    record { level_is = g.level-is; number_is = g.number_is; clean_is = g.clean_is; sized = g.sized; low = r.0; high = r.1 }
+    record { level_is = g.level_is; number_is = g.number_is; clean_is = g.clean_is; sized = g.sized; low = r.0; high = r.1 }
 
 pub path_law : PathLaw
 path_law m limit total top s a d z h = path_of_sound m limit s.height total top s.tree a d z.sound h

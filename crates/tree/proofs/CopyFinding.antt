@@ -37,8 +37,8 @@ mutual
   find_in (last n) a lo hi o = find n a lo hi o
   find_in (more n k f) a lo hi o =
       by_le (λ (es : List Entry). count_at es a ≡ count_at (events n ++ events_in f) a) a k _ _
-      (λ le. omega (arith, find n a lo k o.2, count_append (events n) (events_in f) a, none_from (suc k) a (events_in f) (omega arith) (CopyForests.tree-from-in f (suc k) hi o.3)))
-      (λ gt. omega (arith, find_in f a (suc k) hi o.3, count_append (events n) (events_in f) a, none_upto k a (events n) gt (CopyForests.tree-upto n lo k o.2)))
+      (λ le. omega (arith, find n a lo k o.2, count_append (events n) (events_in f) a, none_from (suc k) a (events_in f) (omega arith) (CopyForests.tree_from_in f (suc k) hi o.3)))
+      (λ gt. omega (arith, find_in f a (suc k) hi o.3, count_append (events n) (events_in f) a, none_upto k a (events n) gt (CopyForests.tree_upto n lo k o.2)))
 
 find_of : (m : Contents) (limit h total top : ℕ) (t : Held Node) (a : ℕ) → SoundOf m limit h total top t → count_in t a ≡ count_at (events_of t) a
 find_of m limit h total top none a s = refl
@@ -57,11 +57,11 @@ left_is (held n) h = refl
 
 lodge_height : (t : Held Node) (h a : ℕ) (free : List ℕ) → (lodge_from t h a free).next.height ≡ height_lodged t h a
 lodge_height none h a free = refl
-lodge_height (held n) h a free = raised_is (lodge n a free).part h ∙ ap (λ (z : ℕ). h + z) (CopyCounts.lodge-parts n a free)
+lodge_height (held n) h a free = raised_is (lodge n a free).part h ∙ ap (λ (z : ℕ). h + z) (CopyCounts.lodge_parts n a free)
 
 withdraw_height : (t : Held Node) (h a : ℕ) (free : List ℕ) → (withdraw_from t h a free).next.height ≡ height_withdrawn t h a
 withdraw_height none h a free = refl
-withdraw_height (held n) h a free = left_is (withdraw n a free).part h ∙ ap (λ (z : ℕ). cond (eqb z 1) 0 h) (CopyCounts.withdraw-lost n a free)
+withdraw_height (held n) h a free = left_is (withdraw n a free).part h ∙ ap (λ (z : ℕ). cond (eqb z 1) 0 h) (CopyCounts.withdraw_lost n a free)
 
 pub height_law : HeightLaw
 height_law s a = (lodge_height s.tree s.height a s.free, withdraw_height s.tree s.height a s.free)

@@ -22,12 +22,12 @@ all_numbers limit ps free h =
     omega (
       arith,
       length-append ps free,
-      CopyShares.upward-length 2 (limit - 1),
+      CopyShares.upward_length 2 (limit - 1),
       CopyShares.same_length (ps ++ free) (usable limit) (λ p. weigh_append (mark p) ps free ∙ h p),
     )
 
 disjoint_of : (limit : ℕ) (ps free : List ℕ) → ((p : ℕ) → times p ps + times p free ≡ times p (usable limit)) → CopyStanding.Disjoint ps free
-disjoint_of limit ps free h p = omega (arith, h p, CopyShares.upward-once p 2 (limit - 1))
+disjoint_of limit ps free h p = omega (arith, h p, CopyShares.upward_once p 2 (limit - 1))
 
 pages_some : (n : Node) → 1 ≤ length (pages n)
 pages_some (leaf p es) = omega arith
@@ -58,9 +58,9 @@ sound_from : (m : Contents) (limit h total top : ℕ) (t : Held Node) (free : Li
 sound_from m limit h total top none free z s c d six = (z, sym c)
 sound_from m limit h total top (held n) free z s c d six = record {
   root_is = refl;
-  range = CopyShares.all-of-times (λ (p : ℕ). (2 ≤ p) × (p ≤ limit)) (pages n)
-      (λ p i. let w = CopyShares.upward-within p 2 (limit - 1) (omega (arith, d p)) in (w.0, omega (arith, w.0, w.1)));
-  once = CopyShares.times-apart (pages n) (λ p. omega (arith, disjoint_of limit (pages n) free d p));
+  range = CopyShares.all_of_times (λ (p : ℕ). (2 ≤ p) × (p ≤ limit)) (pages n)
+      (λ p i. let w = CopyShares.upward_within p 2 (limit - 1) (omega (arith, d p)) in (w.0, omega (arith, w.0, w.1)));
+  once = CopyShares.times_apart (pages n) (λ p. omega (arith, disjoint_of limit (pages n) free d p));
   levels = z.1;
   stands = s;
   filled = z.2;
@@ -117,7 +117,7 @@ lodge_law m limit total top s a z in_top enough =
     let w = lodge_moved top s.tree s.height s.free a shape (disjoint_of limit (pages_of s.tree) s.free z.shared) in_top (omega arith) in (
       e,
       copied m limit total (suc total) top s a k (lodge_step s a) z w
-          (ap counts e ∙ CopySums.enter-sum a (events_of s.tree) ∙ ap suc (sum_of m limit s.height total top s.tree z.sound))
+          (ap counts e ∙ CopySums.enter_sum a (events_of s.tree) ∙ ap suc (sum_of m limit s.height total top s.tree z.sound))
           (omega (arith, ap length w.freed, length-append (path_of s.tree a) (drop k s.free), length-drop k s.free)),
     )
 
@@ -148,7 +148,7 @@ withdraw_law m limit total top s a z low has =
     let r = withdraw_room top s.height a s.free low s.tree shape (number_law m limit total top s z).1 has in
     let enough : k ≤ length s.free = omega (arith, r.0, r.1) in
     let w = withdraw_moved top s.tree s.height s.free a shape (disjoint_of limit (pages_of s.tree) s.free z.shared) enough in
-    let c = CopySums.remove-sum a (events_of s.tree) (rising_some 0 top (events_of s.tree) (sorted_law m limit total top s z)) has in (
+    let c = CopySums.remove_sum a (events_of s.tree) (rising_some 0 top (events_of s.tree) (sorted_law m limit total top s z)) has in (
       enough,
       e,
       copied m limit total (total - 1) top s a k (withdraw_step s a) z w
@@ -167,25 +167,25 @@ count_law m limit total top s a b z =
 pub sum_law : SumLaw
 sum_law m limit total top s a z =
     let shape = shaped_of m limit s.height total top s.tree z.sound in (
-      ap counts (lodge_events top s.tree s.height s.free a shape) ∙ CopySums.enter-sum a (events_of s.tree),
+      ap counts (lodge_events top s.tree s.height s.free a shape) ∙ CopySums.enter_sum a (events_of s.tree),
       λ has. ap (λ (x : List Entry). suc (counts x)) (withdraw_events top s.tree s.height s.free a shape)
-          ∙ CopySums.remove-sum a (events_of s.tree) (rising_some 0 top (events_of s.tree) (sorted_law m limit total top s z)) has,
+          ∙ CopySums.remove_sum a (events_of s.tree) (rising_some 0 top (events_of s.tree) (sorted_law m limit total top s z)) has,
     )
 
 pub greatest_law : GreatestLaw
 greatest_law m limit total top s a greatest z w =
     let shape = shaped_of m limit s.height total top s.tree z.sound in (
-      λ h. subst (Within greatest) (sym (lodge_events top s.tree s.height s.free a shape)) (CopySums.enter-within a greatest (events_of s.tree) w h),
-      subst (Within greatest) (sym (withdraw_events top s.tree s.height s.free a shape)) (CopySums.remove-within a greatest (events_of s.tree) w),
+      λ h. subst (Within greatest) (sym (lodge_events top s.tree s.height s.free a shape)) (CopySums.enter_within a greatest (events_of s.tree) w h),
+      subst (Within greatest) (sym (withdraw_events top s.tree s.height s.free a shape)) (CopySums.remove_within a greatest (events_of s.tree) w),
     )
 
 pub frame_law : FrameLaw
-frame_law n m m' h s = CopyStanding.frame n m m' (λ p i. CopyShares.times-of-all (λ (q : ℕ). m' q ≡ m q) (pages n) p h i) s
+frame_law n m m' h s = CopyStanding.frame n m m' (λ p i. CopyShares.times_of_all (λ (q : ℕ). m' q ≡ m q) (pages n) p h i) s
 
 stands_alike : (m m' : Contents) (limit h total top : ℕ) (t : Held Node) → ((p : ℕ) → 2 ≤ p → p ≤ limit → m' p ≡ m p) → SoundOf m limit h total top t → StandsOf t m'
 stands_alike m m' limit h total top none e s = tt
 stands_alike m m' limit h total top (held n) e s =
-    CopyStanding.frame n m m' (λ p i. let r = CopyShares.times-of-all (λ (q : ℕ). (2 ≤ q) × (q ≤ limit)) (pages n) p s.range i in e p r.0 r.1) s.stands
+    CopyStanding.frame n m m' (λ p i. let r = CopyShares.times_of_all (λ (q : ℕ). (2 ≤ q) × (q ≤ limit)) (pages n) p s.range i in e p r.0 r.1) s.stands
 
 pub agree_law : AgreeLaw
 agree_law m m' limit total top s e z = record {
@@ -199,16 +199,16 @@ empty_law m limit top = record { sound = (refl, refl); shared = λ p. omega arit
 pub range_law : RangeLaw
 range_law m limit total top s z =
     let usable-only : (ps : List ℕ) → ((p : ℕ) → times p ps ≤ times p (usable limit)) → All (λ p. (2 ≤ p) × (p ≤ limit)) ps = λ ps h.
-    CopyShares.all-of-times (λ (p : ℕ). (2 ≤ p) × (p ≤ limit)) ps
-    (λ p i. let w = CopyShares.upward-within p 2 (limit - 1) (omega (arith, h p)) in (w.0, omega (arith, w.0, w.1))) in (
+    CopyShares.all_of_times (λ (p : ℕ). (2 ≤ p) × (p ≤ limit)) ps
+    (λ p i. let w = CopyShares.upward_within p 2 (limit - 1) (omega (arith, h p)) in (w.0, omega (arith, w.0, w.1))) in (
       usable-only (pages_of s.tree) (λ p. omega (arith, z.shared p)),
       usable-only s.free (λ p. omega (arith, z.shared p)),
-      CopyShares.times-apart s.free (λ p. omega (arith, disjoint_of limit (pages_of s.tree) s.free z.shared p)),
+      CopyShares.times_apart s.free (λ p. omega (arith, disjoint_of limit (pages_of s.tree) s.free z.shared p)),
     )
 
 pub opened_law : OpenedLaw
 opened_law m limit height root total top n s = record {
   sound = record
       { root_is = refl; range = s.range; once = s.once; levels = s.levels; stands = s.stands; filled = s.filled; ordered = s.ordered; sum = s.sum; room = s.room };
-  shared = CopyShares.unused-shares limit (pages n) s.range s.once;
+  shared = CopyShares.unused_shares limit (pages n) s.range s.once;
 }

@@ -32,31 +32,31 @@ written_length (w ∷ ws) = ap suc (written_length ws)
 
 -- I. The balance: new pages and the path are the old pages and the written ones, for every weight.
 place_leaf_balance : (w : ℕ → ℕ) (s : Split (List Entry)) (ws : List Write) (free : List ℕ) →
-    weigh w (CopyForests.pages-two (place leaf s ws free).part) + weigh w (written ws) ≡ weigh w (written (place leaf s ws free).writes)
+    weigh w (CopyForests.pages_two (place leaf s ws free).part) + weigh w (written ws) ≡ weigh w (written (place leaf s ws free).writes)
 place_leaf_balance w (one x) ws free = simp written_push (omega arith)
 place_leaf_balance w (two x k y) ws free = simp written_push (omega arith)
 
 place_inner_balance : (w : ℕ → ℕ) (s : Split Forest) (ws : List Write) (free : List ℕ) →
-    weigh w (CopyForests.pages-two (place inner s ws free).part) + weigh w (written ws) ≡ weigh w (CopyForests.pages-rows s) + weigh w (written (place inner s ws free).writes)
+    weigh w (CopyForests.pages_two (place inner s ws free).part) + weigh w (written ws) ≡ weigh w (CopyForests.pages_rows s) + weigh w (written (place inner s ws free).writes)
 place_inner_balance w (one x) ws free = simp written_push (omega arith)
 place_inner_balance w (two x k y) ws free = simp (written_push, weigh_append) (omega arith)
 
 mutual
   pub lodge_balance : (w : ℕ → ℕ) (n : Node) (a : ℕ) (free : List ℕ) →
-      weigh w (CopyForests.pages-two (lodge n a free).part) + weigh w (path n a) ≡ weigh w (pages n) + weigh w (written (lodge n a free).writes)
+      weigh w (CopyForests.pages_two (lodge n a free).part) + weigh w (path n a) ≡ weigh w (pages n) + weigh w (written (lodge n a free).writes)
   lodge_balance w (leaf p es) a free = omega (arith, place_leaf_balance w (fit (enter a es)) [] free)
   lodge_balance w (inner p f) a free =
       let r = lodge_in f a free in
       let h = place_inner_balance w (fit_in r.part) r.writes r.rest in
-      let e = ap (weigh w) (CopyForests.fit-pages r.part) in
+      let e = ap (weigh w) (CopyForests.fit_pages r.part) in
       omega (arith, lodge_in_balance w f a free)
 
   pub lodge_in_balance : (w : ℕ → ℕ) (f : Forest) (a : ℕ) (free : List ℕ) →
       weigh w (pages_in (lodge_in f a free).part) + weigh w (path_in f a) ≡ weigh w (pages_in f) + weigh w (written (lodge_in f a free).writes)
-  lodge_in_balance w (last n) a free = rw (CopyForests.last-pages (lodge n a free).part) (lodge_balance w n a free)
+  lodge_in_balance w (last n) a free = rw (CopyForests.last_pages (lodge n a free).part) (lodge_balance w n a free)
   lodge_in_balance w (more n k f) a free =
       by_le₂ (λ (r : Made Forest) (q : List ℕ). weigh w (pages_in r.part) + weigh w q ≡ weigh w (pages n ++ pages_in f) + weigh w (written r.writes)) a k _ _ _ _
-      (λ le. rw (CopyForests.more-pages k f (lodge n a free).part) (simp weigh_append (omega (arith, lodge_balance w n a free))))
+      (λ le. rw (CopyForests.more_pages k f (lodge n a free).part) (simp weigh_append (omega (arith, lodge_balance w n a free))))
       (λ gt. simp weigh_append (omega (arith, lodge_in_balance w f a free)))
 
 leaf_balance : (w : ℕ → ℕ) (es : List Entry) (ws : List Write) (free : List ℕ) →
@@ -65,19 +65,19 @@ leaf_balance w [] ws free = omega arith
 leaf_balance w (e ∷ es) ws free = simp written_push (omega arith)
 
 inner_balance : (w : ℕ → ℕ) (s : Held Forest) (ws : List Write) (free : List ℕ) →
-    weigh w (pages_of (place_left inner s ws free).part) + weigh w (written ws) ≡ weigh w (CopyWithdrawing.pages-row s) + weigh w (written (place_left inner s ws free).writes)
+    weigh w (pages_of (place_left inner s ws free).part) + weigh w (written ws) ≡ weigh w (CopyWithdrawing.pages_row s) + weigh w (written (place_left inner s ws free).writes)
 inner_balance w none ws free = omega arith
 inner_balance w (held f) ws free = simp written_push (omega arith)
 
-last_weight : (w : ℕ → ℕ) (s : Held Node) → weigh w (CopyWithdrawing.pages-row (held_last s)) ≡ weigh w (pages_of s)
+last_weight : (w : ℕ → ℕ) (s : Held Node) → weigh w (CopyWithdrawing.pages_row (held_last s)) ≡ weigh w (pages_of s)
 last_weight w none = refl
 last_weight w (held n) = refl
 
-more_weight : (w : ℕ → ℕ) (k : ℕ) (f : Forest) (s : Held Node) → weigh w (CopyWithdrawing.pages-row (held_more k f s)) ≡ weigh w (pages_of s) + weigh w (pages_in f)
+more_weight : (w : ℕ → ℕ) (k : ℕ) (f : Forest) (s : Held Node) → weigh w (CopyWithdrawing.pages_row (held_more k f s)) ≡ weigh w (pages_of s) + weigh w (pages_in f)
 more_weight w k f none = omega arith
 more_weight w k f (held n) = weigh_append w (pages n) (pages_in f)
 
-before_weight : (w : ℕ → ℕ) (n : Node) (k : ℕ) (s : Held Forest) → weigh w (CopyWithdrawing.pages-row (held_before n k s)) ≡ weigh w (pages n) + weigh w (CopyWithdrawing.pages-row s)
+before_weight : (w : ℕ → ℕ) (n : Node) (k : ℕ) (s : Held Forest) → weigh w (CopyWithdrawing.pages_row (held_before n k s)) ≡ weigh w (pages n) + weigh w (CopyWithdrawing.pages_row s)
 before_weight w n k none = omega arith
 before_weight w n k (held f) = weigh_append w (pages n) (pages_in f)
 
@@ -91,10 +91,10 @@ mutual
       omega (arith, withdraw_in_balance w f a free)
 
   pub withdraw_in_balance : (w : ℕ → ℕ) (f : Forest) (a : ℕ) (free : List ℕ) →
-      weigh w (CopyWithdrawing.pages-row (withdraw_in f a free).part) + weigh w (path_in f a) ≡ weigh w (pages_in f) + weigh w (written (withdraw_in f a free).writes)
+      weigh w (CopyWithdrawing.pages_row (withdraw_in f a free).part) + weigh w (path_in f a) ≡ weigh w (pages_in f) + weigh w (written (withdraw_in f a free).writes)
   withdraw_in_balance w (last n) a free = omega (arith, last_weight w (withdraw n a free).part, withdraw_balance w n a free)
   withdraw_in_balance w (more n k f) a free =
-      by_le₂ (λ (r : Made (Held Forest)) (q : List ℕ). weigh w (CopyWithdrawing.pages-row r.part) + weigh w q ≡ weigh w (pages n ++ pages_in f) + weigh w (written r.writes)) a k _ _ _ _
+      by_le₂ (λ (r : Made (Held Forest)) (q : List ℕ). weigh w (CopyWithdrawing.pages_row r.part) + weigh w q ≡ weigh w (pages n ++ pages_in f) + weigh w (written r.writes)) a k _ _ _ _
       (λ le. omega (arith, more_weight w k f (withdraw n a free).part, weigh_append w (pages n) (pages_in f), withdraw_balance w n a free))
       (λ gt. omega (arith, before_weight w n k (withdraw_in f a free).part, weigh_append w (pages n) (pages_in f), withdraw_in_balance w f a free))
 

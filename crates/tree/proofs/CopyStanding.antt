@@ -134,10 +134,10 @@ page_of n q = record { page = q; says = content n }
 
 place_leaf_stands : (s : Split (List Entry)) (ws : List Write) (free : List ℕ) (m : Contents) →
     length (place leaf s ws free).writes ≤ length ws + length free → ((p : ℕ) → times p free ≤ 1) → StandsTwo (place leaf s ws free).part (after (place leaf s ws free).writes m)
-place_leaf_stands (one x) ws [] m h a = absurd (omega (arith, simp CopyNumbers.push-length at h))
+place_leaf_stands (one x) ws [] m h a = absurd (omega (arith, simp CopyNumbers.push_length at h))
 place_leaf_stands (one x) ws (q ∷ free) m h a = subst (Stands (leaf q x)) (sym (after_push ws m (page_of (leaf q x) q))) (made_leaf q x (after ws m))
-place_leaf_stands (two x k y) ws [] m h a = absurd (omega (arith, simp CopyNumbers.push-length at h))
-place_leaf_stands (two x k y) ws (q ∷ []) m h a = absurd (omega (arith, simp CopyNumbers.push-length at h))
+place_leaf_stands (two x k y) ws [] m h a = absurd (omega (arith, simp CopyNumbers.push_length at h))
+place_leaf_stands (two x k y) ws (q ∷ []) m h a = absurd (omega (arith, simp CopyNumbers.push_length at h))
 place_leaf_stands (two x k y) ws (q ∷ (r ∷ free)) m h a =
     let v = page_of (leaf q x) q in
     let w = page_of (leaf r y) r in
@@ -146,12 +146,12 @@ place_leaf_stands (two x k y) ws (q ∷ (r ∷ free)) m h a =
     (still (leaf q x) (put (after ws m) v) w (omega (arith, a r, mark_same r)) l, made_leaf r y (put (after ws m) v))
 
 place_inner_stands : (s : Split Forest) (ws : List Write) (free : List ℕ) (m : Contents) →
-    length (place inner s ws free).writes ≤ length ws + length free → Disjoint (CopyForests.pages-rows s) free → StandsRows s (after ws m) → StandsTwo (place inner s ws free).part (after (place inner s ws free).writes m)
-place_inner_stands (one x) ws [] m h a s = absurd (omega (arith, simp CopyNumbers.push-length at h))
+    length (place inner s ws free).writes ≤ length ws + length free → Disjoint (CopyForests.pages_rows s) free → StandsRows s (after ws m) → StandsTwo (place inner s ws free).part (after (place inner s ws free).writes m)
+place_inner_stands (one x) ws [] m h a s = absurd (omega (arith, simp CopyNumbers.push_length at h))
 place_inner_stands (one x) ws (q ∷ free) m h a s =
     subst (Stands (inner q x)) (sym (after_push ws m (page_of (inner q x) q))) (made_inner q x (after ws m) (omega (arith, a q, mark_same q)) s)
-place_inner_stands (two x k y) ws [] m h a s = absurd (omega (arith, simp CopyNumbers.push-length at h))
-place_inner_stands (two x k y) ws (q ∷ []) m h a s = absurd (omega (arith, simp CopyNumbers.push-length at h))
+place_inner_stands (two x k y) ws [] m h a s = absurd (omega (arith, simp CopyNumbers.push_length at h))
+place_inner_stands (two x k y) ws (q ∷ []) m h a s = absurd (omega (arith, simp CopyNumbers.push_length at h))
 place_inner_stands (two x k y) ws (q ∷ (r ∷ free)) m h a s =
     let v = page_of (inner q x) q in
     let w = page_of (inner r y) r in
@@ -174,12 +174,12 @@ mutual
   lodge_stands (leaf p es) a free m h d s = place_leaf_stands (fit (enter a es)) [] free m (omega arith) (λ q. omega (arith, d q))
   lodge_stands (inner p f) a free m h d s =
       let r = lodge_in f a free in
-      let l = CopyNumbers.place-longer inner (fit_in r.part) r.writes r.rest in
+      let l = CopyNumbers.place_longer inner (fit_in r.part) r.writes r.rest in
       let le : length r.writes ≤ length free = omega arith in
-      let t = CopyNumbers.lodge-in-thread f a free le in
+      let t = CopyNumbers.lodge_in_thread f a free le in
       place_inner_stands (fit_in r.part) r.writes r.rest m
-      (omega (arith, CopyNumbers.thread-length r.writes r.rest free t))
-      (λ q. rw (CopyForests.fit-pages r.part) (omega (arith, CopyNumbers.lodge-in-balance (mark q) f a free, thread_times q r.writes r.rest free t, d q)))
+      (omega (arith, CopyNumbers.thread_length r.writes r.rest free t))
+      (λ q. rw (CopyForests.fit_pages r.part) (omega (arith, CopyNumbers.lodge_in_balance (mark q) f a free, thread_times q r.writes r.rest free t, d q)))
       (fit_stands r.part (after r.writes m) (lodge_in_stands f a free m le (λ q. omega (arith, d q)) s.1))
 
   pub lodge_in_stands : (f : Forest) (a : ℕ) (free : List ℕ) (m : Contents) → length (lodge_in f a free).writes ≤ length free → Disjoint (pages_in f) free → StandsIn f m →
@@ -189,9 +189,9 @@ mutual
       by_le (λ (r : Made Forest). length r.writes ≤ length free → StandsIn r.part (after r.writes m)) a k _ _
       (λ le i. more_stands k f (lodge n a free).part _
       (lodge_stands n a free m i (λ q. omega (arith, d q, weigh_append (mark q) (pages n) (pages_in f))) s.0)
-      (old_stands_in f (lodge n a free).writes (lodge n a free).rest free m (CopyNumbers.lodge-thread n a free i) (λ q. omega (arith, d q, weigh_append (mark q) (pages n) (pages_in f))) s.1))
+      (old_stands_in f (lodge n a free).writes (lodge n a free).rest free m (CopyNumbers.lodge_thread n a free i) (λ q. omega (arith, d q, weigh_append (mark q) (pages n) (pages_in f))) s.1))
       (λ gt i. (
-        old_stands n (lodge_in f a free).writes (lodge_in f a free).rest free m (CopyNumbers.lodge-in-thread f a free i) (λ q. omega (arith, d q, weigh_append (mark q) (pages n) (pages_in f))) s.0,
+        old_stands n (lodge_in f a free).writes (lodge_in f a free).rest free m (CopyNumbers.lodge_in_thread f a free i) (λ q. omega (arith, d q, weigh_append (mark q) (pages n) (pages_in f))) s.0,
         lodge_in_stands f a free m i (λ q. omega (arith, d q, weigh_append (mark q) (pages n) (pages_in f))) s.1,
       ))
       h
@@ -204,13 +204,13 @@ StandsRow (held f) m = StandsIn f m
 place_left_leaf_stands : (es : List Entry) (ws : List Write) (free : List ℕ) (m : Contents) →
     length (place_left leaf (keep es) ws free).writes ≤ length ws + length free → StandsOf (place_left leaf (keep es) ws free).part (after (place_left leaf (keep es) ws free).writes m)
 place_left_leaf_stands [] ws free m h = tt
-place_left_leaf_stands (e ∷ es) ws [] m h = absurd (omega (arith, simp CopyNumbers.push-length at h))
+place_left_leaf_stands (e ∷ es) ws [] m h = absurd (omega (arith, simp CopyNumbers.push_length at h))
 place_left_leaf_stands (e ∷ es) ws (q ∷ free) m h = subst (Stands (leaf q (e ∷ es))) (sym (after_push ws m (page_of (leaf q (e ∷ es)) q))) (made_leaf q (e ∷ es) (after ws m))
 
 place_left_inner_stands : (s : Held Forest) (ws : List Write) (free : List ℕ) (m : Contents) →
-    length (place_left inner s ws free).writes ≤ length ws + length free → Disjoint (CopyWithdrawing.pages-row s) free → StandsRow s (after ws m) → StandsOf (place_left inner s ws free).part (after (place_left inner s ws free).writes m)
+    length (place_left inner s ws free).writes ≤ length ws + length free → Disjoint (CopyWithdrawing.pages_row s) free → StandsRow s (after ws m) → StandsOf (place_left inner s ws free).part (after (place_left inner s ws free).writes m)
 place_left_inner_stands none ws free m h a s = tt
-place_left_inner_stands (held x) ws [] m h a s = absurd (omega (arith, simp CopyNumbers.push-length at h))
+place_left_inner_stands (held x) ws [] m h a s = absurd (omega (arith, simp CopyNumbers.push_length at h))
 place_left_inner_stands (held x) ws (q ∷ free) m h a s =
     subst (Stands (inner q x)) (sym (after_push ws m (page_of (inner q x) q))) (made_inner q x (after ws m) (omega (arith, a q, mark_same q)) s)
 
@@ -232,12 +232,12 @@ mutual
   withdraw_stands (leaf p es) a free m h d s = place_left_leaf_stands (remove a es) [] free m (omega arith)
   withdraw_stands (inner p f) a free m h d s =
       let r = withdraw_in f a free in
-      let l = CopyNumbers.place-left-longer inner r.part r.writes r.rest in
+      let l = CopyNumbers.place_left_longer inner r.part r.writes r.rest in
       let le : length r.writes ≤ length free = omega arith in
-      let t = CopyNumbers.withdraw-in-thread f a free le in
+      let t = CopyNumbers.withdraw_in_thread f a free le in
       place_left_inner_stands r.part r.writes r.rest m
-      (omega (arith, CopyNumbers.thread-length r.writes r.rest free t))
-      (λ q. omega (arith, CopyNumbers.withdraw-in-balance (mark q) f a free, thread_times q r.writes r.rest free t, d q))
+      (omega (arith, CopyNumbers.thread_length r.writes r.rest free t))
+      (λ q. omega (arith, CopyNumbers.withdraw_in_balance (mark q) f a free, thread_times q r.writes r.rest free t, d q))
       (withdraw_in_stands f a free m le (λ q. omega (arith, d q)) s.1)
 
   pub withdraw_in_stands : (f : Forest) (a : ℕ) (free : List ℕ) (m : Contents) → length (withdraw_in f a free).writes ≤ length free → Disjoint (pages_in f) free → StandsIn f m →
@@ -247,8 +247,8 @@ mutual
       by_le (λ (r : Made (Held Forest)). length r.writes ≤ length free → StandsRow r.part (after r.writes m)) a k _ _
       (λ le i. held_more_stands k f (withdraw n a free).part _
       (withdraw_stands n a free m i (λ q. omega (arith, d q, weigh_append (mark q) (pages n) (pages_in f))) s.0)
-      (old_stands_in f (withdraw n a free).writes (withdraw n a free).rest free m (CopyNumbers.withdraw-thread n a free i) (λ q. omega (arith, d q, weigh_append (mark q) (pages n) (pages_in f))) s.1))
+      (old_stands_in f (withdraw n a free).writes (withdraw n a free).rest free m (CopyNumbers.withdraw_thread n a free i) (λ q. omega (arith, d q, weigh_append (mark q) (pages n) (pages_in f))) s.1))
       (λ gt i. held_before_stands n k (withdraw_in f a free).part _
-      (old_stands n (withdraw_in f a free).writes (withdraw_in f a free).rest free m (CopyNumbers.withdraw-in-thread f a free i) (λ q. omega (arith, d q, weigh_append (mark q) (pages n) (pages_in f))) s.0)
+      (old_stands n (withdraw_in f a free).writes (withdraw_in f a free).rest free m (CopyNumbers.withdraw_in_thread f a free i) (λ q. omega (arith, d q, weigh_append (mark q) (pages n) (pages_in f))) s.0)
       (withdraw_in_stands f a free m i (λ q. omega (arith, d q, weigh_append (mark q) (pages n) (pages_in f))) s.1))
       h

@@ -15,7 +15,7 @@ use Rattle.tree.proofs.CopyMemory
 use Rattle.tree.proofs.CopyUnique
 
 -- the new root
-lodge_end_is : (s : Split Node) (h : ℕ) (old : List ℕ) (ws : List Write) (rest : List ℕ) → CopyForests.Level-two s h →
+lodge_end_is : (s : Split Node) (h : ℕ) (old : List ℕ) (ws : List Write) (rest : List ℕ) → CopyForests.LevelTwo s h →
     lodge_finish h old (record { part = numbers s; writes = ws; rest = rest })
     ≡ record { next = record { root = number (new_root s ws rest).part; height = raised s h; free = old ++ (new_root s ws rest).rest }; writes = (new_root s ws rest).writes }
 lodge_end_is (one n) h old ws rest l = refl
@@ -34,33 +34,33 @@ new_root_writes h (two p k q) ws free = refl
 lodge_is : (m : Contents) (limit h total top : ℕ) (t : Held Node) (a : ℕ) (free : List ℕ) → SoundOf m limit h total top t → lodge_by h m (root_of t) a free ≡ update_of (lodge_from t h a free)
 lodge_is m limit zero total top none a free s = refl
 lodge_is m limit (suc h) total top none a free s = absurd (omega (arith, s.0))
-lodge_is m limit zero total top (held n) a free s = absurd (CopyUnique.level-some n s.levels)
+lodge_is m limit zero total top (held n) a free s = absurd (CopyUnique.level_some n s.levels)
 lodge_is m limit (suc h) total top (held n) a free s =
-    ap (λ (w : List ℕ). lodge_finish (suc h) w (lodge_at (suc h) m (number n) a free)) (CopyMemory.path-at-is (suc h) n m a s.levels s.stands)
-    ∙ ap (lodge_finish (suc h) (path n a)) (CopyMemory.lodge-at-is (suc h) n m a free s.levels s.stands)
-    ∙ lodge_end_is (lodge n a free).part (suc h) (path n a) (lodge n a free).writes (lodge n a free).rest (CopyLodging.lodge-level n a (suc h) free s.levels)
+    ap (λ (w : List ℕ). lodge_finish (suc h) w (lodge_at (suc h) m (number n) a free)) (CopyMemory.path_at_is (suc h) n m a s.levels s.stands)
+    ∙ ap (lodge_finish (suc h) (path n a)) (CopyMemory.lodge_at_is (suc h) n m a free s.levels s.stands)
+    ∙ lodge_end_is (lodge n a free).part (suc h) (path n a) (lodge n a free).writes (lodge n a free).rest (CopyLodging.lodge_level n a (suc h) free s.levels)
 
 withdraw_is : (m : Contents) (limit h total top : ℕ) (t : Held Node) (a : ℕ) (free : List ℕ) → SoundOf m limit h total top t → withdraw_by h m (root_of t) a free ≡ update_of (withdraw_from t h a free)
 withdraw_is m limit zero total top none a free s = refl
 withdraw_is m limit (suc h) total top none a free s = absurd (omega (arith, s.0))
-withdraw_is m limit zero total top (held n) a free s = absurd (CopyUnique.level-some n s.levels)
+withdraw_is m limit zero total top (held n) a free s = absurd (CopyUnique.level_some n s.levels)
 withdraw_is m limit (suc h) total top (held n) a free s =
-    ap (λ (w : List ℕ). withdraw_finish (suc h) w (withdraw_at (suc h) m (number n) a free)) (CopyMemory.path-at-is (suc h) n m a s.levels s.stands)
-    ∙ ap (withdraw_finish (suc h) (path n a)) (CopyMemory.withdraw-at-is (suc h) n m a free s.levels s.stands)
+    ap (λ (w : List ℕ). withdraw_finish (suc h) w (withdraw_at (suc h) m (number n) a free)) (CopyMemory.path_at_is (suc h) n m a s.levels s.stands)
+    ∙ ap (withdraw_finish (suc h) (path n a)) (CopyMemory.withdraw_at_is (suc h) n m a free s.levels s.stands)
     ∙ withdraw_end_is (withdraw n a free).part (suc h) (path n a) (withdraw n a free).writes (withdraw n a free).rest
 
 needed_is : (m : Contents) (limit h total top : ℕ) (t : Held Node) (a : ℕ) → SoundOf m limit h total top t → needed h m (root_of t) a ≡ lodge_takes t h a
 needed_is m limit zero total top none a s = refl
 needed_is m limit (suc h) total top none a s = absurd (omega (arith, s.0))
-needed_is m limit zero total top (held n) a s = absurd (CopyUnique.level-some n s.levels)
+needed_is m limit zero total top (held n) a s = absurd (CopyUnique.level_some n s.levels)
 needed_is m limit (suc h) total top (held n) a s =
-    omega (arith, CopyMemory.path-splits-at-is (suc h) n m a s.levels s.stands, CopyMemory.page-splits-at-is (suc h) n m a s.levels s.stands)
+    omega (arith, CopyMemory.path_splits_at_is (suc h) n m a s.levels s.stands, CopyMemory.page_splits_at_is (suc h) n m a s.levels s.stands)
 
 path_is : (m : Contents) (limit h total top : ℕ) (t : Held Node) (a : ℕ) → SoundOf m limit h total top t → path_at h m (root_of t) a ≡ path_of t a
 unfolding path_at
 path_is m limit zero total top none a s = refl
 path_is m limit (suc h) total top none a s = absurd (omega (arith, s.0))
-path_is m limit h total top (held n) a s = CopyMemory.path-at-is h n m a s.levels s.stands
+path_is m limit h total top (held n) a s = CopyMemory.path_at_is h n m a s.levels s.stands
 
 pub update_law : UpdateLaw
 update_law m limit total top s a z = (

@@ -82,9 +82,9 @@ mutual
   withdraw_in_events (more n k f) a lo hi free o =
       by_le (λ (r : Made (Held Forest)). events_row r.part ≡ remove a (events n ++ events_in f)) a k _ _
       (λ le. more_events k f (withdraw n a free).part ∙ ap (λ (z : List Entry). z ++ events_in f) (withdraw_events n a lo k free o.2)
-      ∙ sym (remove_left a k (events n) (events_in f) le (CopyForests.tree-from-in f (suc k) hi o.3)))
+      ∙ sym (remove_left a k (events n) (events_in f) le (CopyForests.tree_from_in f (suc k) hi o.3)))
       (λ gt. before_events n k (withdraw_in f a free).part ∙ ap (λ (z : List Entry). events n ++ z) (withdraw_in_events f a (suc k) hi free o.3)
-      ∙ sym (remove_right a k (events n) (events_in f) gt (CopyForests.tree-upto n lo k o.2)))
+      ∙ sym (remove_right a k (events n) (events_in f) gt (CopyForests.tree_upto n lo k o.2)))
 
 -- the order
 leaf_ordered : (es : List Entry) (ws : List Write) (free : List ℕ) (lo hi : ℕ) → LeafKeys lo hi es → OrderedHeld (place_left leaf (keep es) ws free).part lo hi
@@ -100,7 +100,7 @@ last_ordered none lo hi o = tt
 last_ordered (held n) lo hi o = o
 
 more_ordered : (k : ℕ) (f : Forest) (s : Held Node) (lo hi : ℕ) → lo ≤ k → k < hi → OrderedHeld s lo k → OrderedIn f (suc k) hi → OrderedRow (held_more k f s) lo hi
-more_ordered k f none lo hi l h o q = CopyForests.wider-in f (suc k) hi lo hi (omega arith) (omega arith) q
+more_ordered k f none lo hi l h o q = CopyForests.wider_in f (suc k) hi lo hi (omega arith) (omega arith) q
 more_ordered k f (held n) lo hi l h o q = (l, h, o, q)
 
 before_ordered : (n : Node) (k : ℕ) (s : Held Forest) (lo hi : ℕ) → lo ≤ k → k < hi → Ordered n lo k → OrderedRow s (suc k) hi → OrderedRow (held_before n k s) lo hi

@@ -39,8 +39,8 @@ refused_at_first_unsound m limit charge height root total top p r left e =
       | inr q ↦
           (let g = found m limit (suc limit) charge [] st 0 q.2 q.3 left q.4 in
           let ps = pages_all g.trees in
-          let n = ap length g.seen-is ∙ length_seen ps in
-          inr (q.0, q.1, g.trees, g.stand, g.admitted, g.spent, λ h. q.5 (sums_seen limit total ps q.2 (counts_all g.trees) q.3 (sym n) (omega (arith, g.total-is)) h)))
+          let n = ap length g.seen_is ∙ length_seen ps in
+          inr (q.0, q.1, g.trees, g.stand, g.admitted, g.spent, λ h. q.5 (sums_seen limit total ps q.2 (counts_all g.trees) q.3 (sym n) (omega (arith, g.total_is)) h)))
     ]
 
 -- one visit that breaks a rule, with a charge for its read: it is refused, unless the fuel is used up

@@ -76,15 +76,15 @@ module _ (is_IsLeaf : ℕ → Bool) where
 
   stopped_few : (d : Limited) (w v : Walked) (charge room : ℕ) → Agrees d.out d.next w charge room → Few d 0 w → Few d 0 (joined w v)
   stopped_few d w v charge room g hd =
-      let few : d.out.reads ≤ read_count w.steps = omega (arith, ap (λ o. o.reads) g.outcome-is, reads_few w.steps charge room) in
+      let few : d.out.reads ≤ read_count w.steps = omega (arith, ap (λ o. o.reads) g.outcome_is, reads_few w.steps charge room) in
       omega (arith, hd, passing_first w.steps v.steps d.out.reads few)
 
   continue_few : (d p : Limited) (w : Walked) (rest : Option ℕ → Walked) (charge room : ℕ) → Agrees d.out d.next w charge room →
       Few d 0 w → Few p 0 (rest d.next) → (e : Ending) → d.out.ending ≡ e → Few (continue e d p) 0 (joined w (rest w.next))
   continue_few d p w rest charge room g hd hp done e =
-      let all = (only_law w.steps charge room (sym (ap (λ o. o.ending) g.outcome-is) ∙ e)).0 in
-      let count : d.out.reads ≡ read_count w.steps = ap (λ o. o.reads) g.outcome-is ∙ ap (λ o. o.reads) all in
-      let hp' = subst (λ (nx : Option ℕ). Few p 0 (rest nx)) (g.next-is e) hp in
+      let all = (only_law w.steps charge room (sym (ap (λ o. o.ending) g.outcome_is) ∙ e)).0 in
+      let count : d.out.reads ≡ read_count w.steps = ap (λ o. o.reads) g.outcome_is ∙ ap (λ o. o.reads) all in
+      let hp' = subst (λ (nx : Option ℕ). Few p 0 (rest nx)) (g.next_is e) hp in
       omega (arith, hd, hp', passing_both w.steps (rest w.next).steps d.out.reads p.out.reads count)
   continue_few d p w rest charge room g hd hp (Ending.more a) e = stopped_few d w (rest w.next) charge room g hd
   continue_few d p w rest charge room g hd hp (cut page a) e = stopped_few d w (rest w.next) charge room g hd

@@ -27,7 +27,7 @@ enter_cut page hi a w next room h = rw (le-leb a hi h) (record {
 
 enter_read : (page hi a : ℕ) (w : Walked) (o : Outcome) (next : Option ℕ) (charge room : ℕ) → a ≤ hi → Agrees o next w charge room →
     Agrees (add_read o) next (enter page hi (Some a) w) (suc charge) room
-enter_read page hi a w o next charge room h g = rw (le-leb a hi h) (record { outcome_is = ap add_read g.outcome-is; next_is = g.next-is })
+enter_read page hi a w o next charge room h g = rw (le-leb a hi h) (record { outcome_is = ap add_read g.outcome_is; next_is = g.next_is })
 
 pub pass_law : PassLaw
 pass_law ask P (leaf page es) hi next charge room h = enter_pass page hi _ charge room next h

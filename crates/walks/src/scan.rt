@@ -44,11 +44,11 @@ fn scan_pages<S: PageStore>(
     marks: &mut [bool; 1026],
 ) -> Result<Seen, Fault>
     requires last { last ≤ 1024 }
-    requires pages { last ≤ length (meaning store.old).pages }
+    requires pages { last ≤ length (S.meaning store.old).pages }
     requires work { 64 ≤ length work.old }
     requires height { height ≤ 6 }
-    ensures { ScansPages (scanned (suc last) (contents (meaning store.old)) last (meaning store.old).charge [] (first_visits height root top) 0)
-        (meaning store.old) result (meaning store.new) marks.new }
+    ensures { ScansPages (scanned (suc last) (contents (S.meaning store.old)) last (S.meaning store.old).charge [] (first_visits height root top) 0)
+        (S.meaning store.old) result (S.meaning store.new) marks.new }
 {
     *marks = [false; 1026];
     let mut pending = Tray::over(work);
@@ -85,7 +85,7 @@ pub fn scan<S: PageStore>(
     work: &mut [Visit],
     marks: &mut [bool; 1026],
 ) -> Result<(), Fault>
-    ensures { Scans (meaning store.old) limit height root total top (length work.old) result (meaning store.new) marks.new }
+    ensures { Scans (S.meaning store.old) limit height root total top (length work.old) result (S.meaning store.new) marks.new }
 {
     if work.len() < 64 {
         return Err(Fault::Work);

@@ -52,8 +52,8 @@ pub(crate) fn visit_page<S: PageStore>(
 ) -> Result<u32, Fault>
     requires level { 1 ≤ v.level }
     requires room { pending.old.used + 10 ≤ length pending.old.memory.now }
-    ensures visits { Visits (meaning store.old) v (to_come pending.old.memory.now pending.old.used)
-        result (meaning store.new) (to_come pending.new.memory.now pending.new.used) }
+    ensures visits { Visits (S.meaning store.old) v (to_come pending.old.memory.now pending.old.used)
+        result (S.meaning store.new) (to_come pending.new.memory.now pending.new.used) }
     ensures size { length pending.new.memory.now ≡ length pending.old.memory.now }
 {
     let mut page = [0; 128];

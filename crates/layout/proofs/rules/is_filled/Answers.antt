@@ -6,6 +6,6 @@ use Rattle.layout.proofs.rules.is_filled.Goals as goal
 pub returns : goal.returns
 returns c =
     filled_decides c.args.page.now _ _ _ _ _
-    (c.level.ensures ∙ ap level_of c.new-reader.ensures.bytes) (c.number.ensures ∙ ap number_of c.new-reader.ensures.bytes) (c.as-slice.ensures ∙ c.of-page-list.ensures)
-    (λ z. c.if-len-eq0.false (c.len.ensures.is ∙ ap length (sym c.as-slice.ensures) ∙ z))
-    c.if-not-write-page.ensures.1.0 c.same-bytes.ensures
+    (c.level.ensures ∙ ap level_of c.new-reader.ensures.bytes) (c.number.ensures ∙ ap number_of c.new-reader.ensures.bytes) (c.as_slice.ensures ∙ c.of_page-list.ensures)
+    (λ z. c.if-len-eq0.false (c.len.ensures.is ∙ ap length (sym c.as_slice.ensures) ∙ z))
+    c.if-not-write_page.ensures.1.0 c.same_bytes.ensures

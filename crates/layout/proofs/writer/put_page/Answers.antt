@@ -9,8 +9,8 @@ use Rattle.layout.proofs.writer.put_page.Goals as goal
 
 pub loop-i-preserved : goal.loop-i-preserved
 loop-i-preserved c = (
-  write_more _ _ _ c.args.entries.now _ _ c.loop-i.i _ _ _ c.loop-i-test.true refl (omega arith) c.loop-i.invariant.0 c.put-entry.ensures.bytes,
-  All-more Fit c.args.entries.now c.loop-i.i (record { key = 0; value = 0 }) c.loop-i-test.true c.loop-i.invariant.1 c.put-entry.ensures.fits,
+  write_more _ _ _ c.args.entries.now _ _ c.loop-i.i _ _ _ c.loop-i-test.true refl (omega arith) c.loop-i.invariant.0 c.put_entry.ensures.bytes,
+  All-more Fit c.args.entries.now c.loop-i.i (record { key = 0; value = 0 }) c.loop-i-test.true c.loop-i.invariant.1 c.put_entry.ensures.fits,
 )
 
 pub returns : goal.returns

@@ -1,4 +1,4 @@
 use Rattle.orders.proofs.rule.+point_by.Given as goal
 
-abbrev pub decreases-point-by : goal.decreases-point-by
-decreases-point-by g l = l.t
+abbrev pub decreases-point_by : goal.decreases-point_by
+decreases-point_by g l = l.t

@@ -10,11 +10,11 @@ returns-then-i-eq0 c =
     drops_other _ _ _ c.len-n.result (elim c.then-i-eq0.branch [
       | then-i-eq0-via-then-i-eq0 w ↦ inl w.if-i-eq0.true
       | then-i-eq0-via-else-i-eq0+then-i-n w ↦ inr (w.if-i-eq0.false, w.if-i-n.true)
-    ]) c.len-n.ensures.is c.remove-at.ensures
+    ]) c.len-n.ensures.is c.remove_at.ensures
 
-pub set-at-requires : goal.set-at-requires
-set-at-requires c =
-    omega (arith, ap length c.remove-at-2.ensures, length-remove (entries c.args.self.now) c.args.i c.requires, c.requires, c.if-i-eq0.false, c.if-i-n.false, c.len-n.ensures.is)
+pub set_at-requires : goal.set_at-requires
+set_at-requires c =
+    omega (arith, ap length c.remove_at-2.ensures, length-remove (entries c.args.self.now) c.args.i c.requires, c.requires, c.if-i-eq0.false, c.if-i-n.false, c.len-n.ensures.is)
 
 pub returns : goal.returns
-returns c = drops_last _ _ _ _ _ _ c.requires c.if-i-eq0.false c.if-i-n.false c.len-n.ensures.is c.at-value.ensures c.remove-at-2.ensures c.set-at.ensures
+returns c = drops_last _ _ _ _ _ _ c.requires c.if-i-eq0.false c.if-i-n.false c.len-n.ensures.is c.at-value.ensures c.remove_at-2.ensures c.set_at.ensures

@@ -7,12 +7,12 @@ use Rattle.layout.proofs.list.EntryList.insert_at.Goals as goal
 pub returns : goal.returns
 returns c =
     let n = length-take-le c.args.self.now.len c.args.self.now.items (omega arith) in
-    insert_is c.args.self.now.items _ c.args.self.now.len c.args.i c.args.e (omega arith) (omega arith) c.rotate-right.ensures.after
+    insert_is c.args.self.now.items _ c.args.self.now.len c.args.i c.args.e (omega arith) (omega arith) c.rotate_right.ensures.after
 
-pub invariant-of-self : goal.invariant-of-self
-invariant-of-self c =
+pub invariant_of-self : goal.invariant_of-self
+invariant_of-self c =
     let xs : List Entry = set c.args.self.now.items c.args.self.now.len c.args.e in
     let n = length-take-le c.args.self.now.len c.args.self.now.items (omega arith) in
     let s = length-set c.args.self.now.items c.args.self.now.len c.args.e in
     let b : c.args.i + (c.args.self.now.len + 1 - c.args.i) ≤ length xs = omega (arith, s) in
-    ((omega arith, length_put_mid xs _ c.args.i (c.args.self.now.len + 1 - c.args.i) b (c.rotate-right.ensures.len ∙ length_part xs c.args.i (c.args.self.now.len + 1 - c.args.i) b) ∙ s ∙ c.args.self.now.ok.1), tt)
+    record { ok = (omega arith, length_put_mid xs _ c.args.i (c.args.self.now.len + 1 - c.args.i) b (c.rotate_right.ensures.len ∙ length_part xs c.args.i (c.args.self.now.len + 1 - c.args.i) b) ∙ s ∙ c.args.self.now.ok.1) }

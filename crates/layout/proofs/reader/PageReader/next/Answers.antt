@@ -6,4 +6,4 @@ pub returns-then-self-held : goal.returns-then-self-held
 returns-then-self-held c = record { same = refl; gives = given_none c.args.self.now.bytes.now c.args.self.now.at _ c.held.ensures c.if-self-held.true }
 
 pub returns : goal.returns
-returns c = record { same = refl; gives = given_next c.args.self.now.bytes.now c.args.self.now.at _ _ c.held.ensures c.if-self-held.false c.read-entry-e.ensures }
+returns c = record { same = refl; gives = given_next c.args.self.now.bytes.now c.args.self.now.at _ _ c.held.ensures c.if-self-held.false c.read_entry-e.ensures }

@@ -3,12 +3,12 @@ use Rattle.std.proofs.lemmas.Result.{err_from_is_err_and}
 use Rattle.pages.proofs.Cuts.{writes_yes, writes_no, overwritten_is}
 use Rattle.pages.proofs.memory.MemoryStorePageStore.write.Goals as goal
 
-pub returns-in-err-access : goal.returns-in-err-access
-returns-in-err-access c =
-    let p = err_from_is_err_and c.from-residual.result c.from-residual.ensures.1 in
-    rw (p.1, p.2) (record { write = writes_no _ _ _ _ c.number-in-pages.ensures _ c.args.from.now _ c.in-err-access.ensures; bytes = refl; lent = refl })
+pub returns-in_err-access : goal.returns-in_err-access
+returns-in_err-access c =
+    let p = err_from_is_err_and c.from_residual.result c.from_residual.ensures.1 in
+    rw (p.1, p.2) (record { write = writes_no _ _ _ _ c.number_in-pages.ensures _ c.args.from.now _ c.in_err-access.ensures; bytes = refl; lent = refl })
 
 pub returns : goal.returns
 returns c =
-    let b = overwritten_is c.args.self.now.bytes.now c.copy-from-slice.new.self c.args.from.now c.args.page _ (omega arith) c.copy-from-slice.ensures.after in
-    record { write = writes_yes _ _ _ _ c.number-in-pages.ensures _ _ _ c.in-ok-access.ensures c.told-from b; bytes = b; lent = refl }
+    let b = overwritten_is c.args.self.now.bytes.now c.copy_from_slice.new.self c.args.from.now c.args.page _ (omega arith) c.copy_from_slice.ensures.after in
+    record { write = writes_yes _ _ _ _ c.number_in-pages.ensures _ _ _ c.in_ok-access.ensures c.told-from b; bytes = b; lent = refl }

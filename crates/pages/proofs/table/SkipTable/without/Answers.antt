@@ -16,14 +16,20 @@ loop-b-preserved c =
     gone_more _ _ _ _ _ _ c.loop-b.invariant _ (omega arith) refl _ _ (omega arith) (omega arith)
     c.fill-count.ensures.few c.fill-count.array_long c.fill-count.ensures.filled
 
-pub invariant-of-result : goal.invariant-of-result
-invariant-of-result c =
+pub invariant_of-result : goal.invariant_of-result
+invariant_of-result c =
     let l = c.fill-count-2.array_long in
     let f = c.fill-count-2.ensures.few in
     let e = gone_places _ _ _ _ _ _ c.loop-b.invariant (omega arith) c.fill-count-2.result c.fill-count-2.new.places c.fill-count-2.ensures.filled in
-    (l, (f, (entered_positive _ _ _ _ l f e, (entered_within _ _ _ _ l f e, (entered_rising _ _ _ _ l f e, tt)))))
+    record {
+      long = l;
+      few = f;
+      positive = entered_positive _ _ _ _ l f e;
+      within = entered_within _ _ _ _ l f e;
+      rising = entered_rising _ _ _ _ l f e;
+    }
 
 pub returns : goal.returns
 returns c =
     let e = gone_places _ _ _ _ _ _ c.loop-b.invariant (omega arith) c.fill-count-2.result c.fill-count-2.new.places c.fill-count-2.ensures.filled in
-    (gone_allowed _ _ _ _ _ _ c.loop-b.invariant (omega arith) c.fill-count-2.result c.fill-count-2.new.places c.fill-count-2.ensures.filled (search rules) c.if-bad-gt-MOST-BAD.false, e, refl)
+    (gone_allowed _ _ _ _ _ _ c.loop-b.invariant (omega arith) c.fill-count-2.result c.fill-count-2.new.places c.fill-count-2.ensures.filled (search rules) c.if-bad-gt-MOST_BAD.false, e, refl)

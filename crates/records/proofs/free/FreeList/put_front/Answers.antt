@@ -14,11 +14,13 @@ returns-then-k-eq0 c = (
   refl,
 )
 
-pub overflow-add-self : goal.overflow-add-self
-overflow-add-self c = omega (arith, kept_few _ _ _ _ (kept c.args.self.now))
+pub overflow_add-self : goal.overflow_add-self
+overflow_add-self c = omega (arith, kept_few _ _ _ _ (kept c.args.self.now))
 
-pub invariant-of-self : goal.invariant-of-self
-invariant-of-self c = put_ghosts c.args.self.now c.args.k c.if-k-eq0.false c.if-k-gt-GREATEST.false c.if-self-k.false
+pub invariant_of-self : goal.invariant_of-self
+invariant_of-self c =
+    let z = put_ghosts c.args.self.now c.args.k c.if-k-eq0.false c.if-k-gt-GREATEST.false c.if-self-k.false in
+    record { long = z.0; low = z.1.0; linked = z.1.1.0; counted = z.1.1.1.0; loose = z.1.1.1.1.0 }
 
 pub returns : goal.returns
 returns c = puts c.args.self.now c.args.k c.if-k-eq0.false c.if-k-gt-GREATEST.false c.if-self-k.false _ refl refl
