@@ -149,6 +149,12 @@ def file_of(path):
     return None
 
 
+def types_in_path(m):
+    """A path of a use line with the types in it respelled."""
+    known = NEW.get(file_of(m[0]), {})
+    return ".".join(known.get(step, step) for step in m[0].split("."))
+
+
 def scope_of(f, text):
     table = dict(NEW.get(f, {}))
     for path, names, alias in USE.findall(text):
@@ -177,6 +183,7 @@ def turned(f, text, table):
     out = []
     for line in text.split("\n"):
         code, comment = code_of(line, mark)
+        code = re.sub(r"(?<=\buse Rattle\.)[^\s;{]+", types_in_path, code)
 
         def turn(m):
             word, start = m[0], m.start()

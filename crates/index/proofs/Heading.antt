@@ -12,7 +12,7 @@ use Rattle.faults.specs.declared.fault.Access.{Access}
 use Rattle.faults.specs.declared.fault.Fault.TheVariants.{OtherOrder}
 use Rattle.faults.specs.Refusals.{unread}
 use Rattle.index.specs.Head.{Got, Says, NoHead, ReadsHead}
-use Rattle.index.specs.Head.No-head.{refused, other}
+use Rattle.index.specs.Head.NoHead.{refused, other}
 use Rattle.index.specs.Keeping.{Ours, top}
 
 -- a refused read does not say what the lent page held

@@ -34,7 +34,7 @@ use Rattle.index.specs.Searched.{search_of, answer_of}
 use Rattle.index.specs.Steps.{Step as IndexStep, Does}
 use Rattle.index.specs.Steps.Does.{not_open, outside, searched}
 use Rattle.index.specs.Law.{NumberOf}
-use Rattle.index.specs.Law.Number-of.{nothing}
+use Rattle.index.specs.Law.NumberOf.{nothing}
 use Rattle.index.specs.LawEndings.{in_leaves_from, WantedIn, Ends, Ended, EndingLaw}
 use Rattle.index.proofs.LawRuns.{counted_by, reads_paid}
 use Rattle.index.proofs.LawWhole.{no_find}

@@ -27,7 +27,7 @@ use Rattle.index.specs.Model.Answer.{found}
 use Rattle.index.specs.Keeping.{top}
 use Rattle.index.specs.Searched.{search_of, answer_of}
 use Rattle.index.specs.Law.{regions_of, NumberOf}
-use Rattle.index.specs.Law.Number-of.{nothing, one_more, passed}
+use Rattle.index.specs.Law.NumberOf.{nothing, one_more, passed}
 
 -- how many there are, by any test
 pub counted_by : (P : Region → Type 0) (test : Region → Bool) → ((r : Region) → Decides (test r) (P r)) → (rs : List Region) → NumberOf P rs (length (filter test rs))

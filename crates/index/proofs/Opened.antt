@@ -20,7 +20,7 @@ use Rattle.index.specs.Model.{State, Known, state, limit, refusal}
 use Rattle.index.specs.Model.Answer.{accepted}
 use Rattle.index.specs.Model.Known.{shut, knows}
 use Rattle.index.specs.Head.{Got, Says, NoHead}
-use Rattle.index.specs.Head.No-head.{refused, none, other}
+use Rattle.index.specs.Head.NoHead.{refused, none, other}
 use Rattle.index.specs.Keeping.{Ours, top}
 use Rattle.index.specs.Opening.{Opening, ReadsOurs, scan_of}
 use Rattle.index.specs.Opening.Opening.{few_records, absent, uncharged, no_header, other_order, unread, breaks, opens_on}

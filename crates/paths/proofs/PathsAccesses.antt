@@ -19,7 +19,7 @@ use Rattle.faults.specs.Refusals.{unread, unwritten}
 use Rattle.faults.specs.Accesses.{Fetches, Stores, contents}
 use Rattle.paths.specs.PathsWrites.{Refuses, Wrote, Cut, Unwrites}
 use Rattle.paths.specs.PathsPages.{Read, UnreadPage, write_of}
-use Rattle.paths.specs.PathsPages.Unread-page.{refused, broken}
+use Rattle.paths.specs.PathsPages.UnreadPage.{refused, broken}
 
 read_refused : (m m' : Image) (p : ℕ) (old new : List ℕ) (f : StoreFault) → Reads m p old (Err f) m' new → Refuses m p f × (m' ≡ m)
 read_refused m m' p old new Absent r = (r.0, r.2)

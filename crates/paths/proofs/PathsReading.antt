@@ -11,7 +11,7 @@ use Rattle.faults.specs.declared.fault.Fault.{Fault}
 use Rattle.faults.specs.Accesses.{contents}
 use Rattle.paths.specs.PathsWrites.{Refuses, after_reads}
 use Rattle.paths.specs.PathsPages.{Read, UnreadPage, Breaks}
-use Rattle.paths.specs.PathsPages.Unread-page.{refused as at_store, broken as at_page}
+use Rattle.paths.specs.PathsPages.UnreadPage.{refused as at_store, broken as at_page}
 use Rattle.paths.specs.PathsReading.{Stopped, Misread}
 use Rattle.paths.specs.PathsReading.Misread.{refused, broken}
 use Rattle.paths.proofs.PathsWriting.{after_none, after_more}

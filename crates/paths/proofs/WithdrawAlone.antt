@@ -17,7 +17,7 @@ use Rattle.paths.specs.declared.copied.Copied.{Copied}
 use Rattle.paths.specs.PathsWrites.{after_reads, Wrote}
 use Rattle.paths.specs.Withdrawals.Refusal.{misread, no_event, unwrites}
 use Rattle.paths.specs.WithdrawRules.{Withdrew}
-use Rattle.paths.specs.WithdrawRules.Not-withdrawn.{no_room, refusal}
+use Rattle.paths.specs.WithdrawRules.NotWithdrawn.{no_room, refusal}
 use Rattle.paths.specs.PathsCopies.{LeavesAlone}
 use Rattle.paths.proofs.PathsWriting.{after_none}
 use Rattle.paths.proofs.PathsCopying.{wrote_alone, read_alone, misread_alone, append_none}

@@ -30,7 +30,7 @@ use Rattle.paths.specs.PathsReading.{back, counted, KeptAt}
 use Rattle.paths.specs.Withdrawals.{Done, Refusal, Traced}
 use Rattle.paths.specs.Withdrawals.Refusal.{misread, no_event, unwrites}
 use Rattle.paths.specs.WithdrawRules.{copied_of, CopiesLeft, RoomFor, NotWithdrawn, Withdrew, Withdraws, WithdrawIs, WithdrawNextLaw, WithdrawFreeLaw, WithdrawRefusedLaw}
-use Rattle.paths.specs.WithdrawRules.Not-withdrawn.{no_room, refusal}
+use Rattle.paths.specs.WithdrawRules.NotWithdrawn.{no_room, refusal}
 use Rattle.paths.proofs.PathsWriting.{after_none, accepts_charge}
 use Rattle.paths.proofs.PathsMemory.{kept_after, kept_read}
 use Rattle.paths.proofs.PathsCopying.{only_short}

@@ -7,4 +7,4 @@ pub returns-then-height-gt6 : goal.returns-then-height-gt6
 returns-then-height-gt6 g c = lodge_above _ c.args.root _ c.args.address (numbers c.args.free.now) (omega arith)
 
 pub returns : goal.returns
-returns g c = lodge_is _ _ _ _ _ _ c.lodge-tree.result (omega arith) c.lodge-tree.ensures
+returns g c = lodge_is _ _ _ _ _ _ c.lodge_tree.result (omega arith) c.lodge_tree.ensures

@@ -3,6 +3,6 @@ use Rattle.paths.proofs.lodge.renew_child.Goals as goal
 
 pub returns : goal.returns
 returns c = record {
-  halves = renewed _ _ _ _ _ c.put-child.result c.split-inner.result c.requires c.put-child.ensures c.split-inner.ensures.fits;
-  fits = renewed_fits _ c.split-inner.result c.split-inner.ensures.few;
+  halves = renewed _ _ _ _ _ c.put_child.result c.split_inner.result c.requires c.put_child.ensures c.split_inner.ensures.fits;
+  fits = renewed_fits _ c.split_inner.result c.split_inner.ensures.few;
 }

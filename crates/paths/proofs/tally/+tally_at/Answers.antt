@@ -7,15 +7,15 @@ use Rattle.paths.proofs.tally.+tally_at.Goals as goal
 pub returns-then-level-eq0 : goal.returns-then-level-eq0
 returns-then-level-eq0 g t c = tally_empty _ _ c.args.page c.args.address c.if-level-eq0.true
 
-pub returns-in-err-list : goal.returns-in-err-list
-returns-in-err-list g t c =
-    let p = err_from_is_err_and c.from-residual.result c.from-residual.ensures.1 in
-    rw (p.1, p.2) (misread_here _ _ _ _ _ _ (omega arith) c.in-err-list.ensures)
+pub returns-in_err-list : goal.returns-in_err-list
+returns-in_err-list g t c =
+    let p = err_from_is_err_and c.from_residual.result c.from_residual.ensures.1 in
+    rw (p.1, p.2) (misread_here _ _ _ _ _ _ (omega arith) c.in_err-list.ensures)
 
 pub returns-then-level-eq1 : goal.returns-then-level-eq1
-returns-then-level-eq1 g t c = tally_leaf _ _ _ _ _ _ _ c.if-level-eq1.true c.in-ok-list.ensures c.count-in.ensures
+returns-then-level-eq1 g t c = tally_leaf _ _ _ _ _ _ _ c.if-level-eq1.true c.in_ok-list.ensures c.count_in.ensures
 
 pub returns : goal.returns
 returns g t c =
     let two : 2 ≤ c.args.level = omega arith in
-    tally_below _ _ _ _ _ _ _ _ _ c.tally-at.result (goes _ _ _ _ _ _ _ two c.in-ok-list.ensures c.child-in.ensures) c.tally-at.ensures
+    tally_below _ _ _ _ _ _ _ _ _ c.tally_at.result (goes _ _ _ _ _ _ _ two c.in_ok-list.ensures c.child_in.ensures) c.tally_at.ensures

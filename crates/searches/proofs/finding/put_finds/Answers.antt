@@ -3,7 +3,7 @@ use Rattle.records.specs.declared.tray.Tray.{Tray}
 use Rattle.searches.specs.declared.find.Find.{Find}
 use Rattle.searches.proofs.LeafFinds.{AllSearched, searched_none, searched_all, passed_by, found_one, no_room}
 use Rattle.searches.proofs.finding.put_finds.Goals as goal
-use Rattle.searches.proofs.finding.put_finds.Goals.{in-Some+in-default-put, in-default}
+use Rattle.searches.proofs.finding.put_finds.Goals.{in-Some+in_default-put, in_default}
 
 pub loop-i-init : goal.loop-i-init
 loop-i-init g c =
@@ -18,16 +18,16 @@ loop-i-preserved g c =
     let m = c.args.finds.now.memory.now in
     let u = c.args.finds.now.used in
     let t = c.loop-i.finds in
-    elim c.match-point-in-box.branch [
-      | in-Some+in-default-put w ↦ (
+    elim c.match-point_in_box.branch [
+      | in-Some+in_default-put w ↦ (
         subst (λ (x : Tray Find). AllSearched o lo hi c.args.start es m u (c.loop-i.i + 1) x.memory.now x.used) (sym w.finds-is)
             (found_one o lo hi c.args.start es m u c.loop-i.i t.memory.now t.used c.loop-i-test.true c.loop-i.invariant.0 _ w.in-Some.point w.in-Some.ensures refl
-            w.put.new.self.memory.now w.put.new.self.used tt t.within w.in-default-put.ensures.put),
-        ap (λ (x : Tray Find). x.memory.ghost_name) w.finds-is ∙ w.in-default-put.ensures.lent ∙ c.loop-i.invariant.1,
+            w.put.new.self.memory.now w.put.new.self.used tt t.within w.in_default-put.ensures.put),
+        ap (λ (x : Tray Find). x.memory.ghost_name) w.finds-is ∙ w.in_default-put.ensures.lent ∙ c.loop-i.invariant.1,
       )
-      | in-default w ↦ (
+      | in_default w ↦ (
         subst (λ (x : Tray Find). AllSearched o lo hi c.args.start es m u (c.loop-i.i + 1) x.memory.now x.used) (sym w.finds-is)
-            (passed_by o lo hi c.args.start es m u c.loop-i.i t.memory.now t.used c.loop-i-test.true c.loop-i.invariant.0 w.in-default.ensures),
+            (passed_by o lo hi c.args.start es m u c.loop-i.i t.memory.now t.used c.loop-i-test.true c.loop-i.invariant.0 w.in_default.ensures),
         ap (λ (x : Tray Find). x.memory.ghost_name) w.finds-is ∙ c.loop-i.invariant.1,
       )
     ]

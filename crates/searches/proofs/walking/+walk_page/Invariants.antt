@@ -3,8 +3,8 @@ use Rattle.searches.specs.declared.find.Ending.TheVariants.{Done}
 use Rattle.searches.proofs.PageWalk.{Turned}
 use Rattle.searches.proofs.walking.+walk_page.Given as goal
 
-abbrev pub decreases-walk-page : goal.decreases-walk-page
-decreases-walk-page g l = l.level
+abbrev pub decreases-walk_page : goal.decreases-walk_page
+decreases-walk_page g l = l.level
 
 abbrev pub invariant-loop-j : goal.invariant-loop-j
 invariant-loop-j g l =
