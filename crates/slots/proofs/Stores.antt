@@ -19,80 +19,54 @@ use Rattle.slots.proofs.Writes.{never_full, Wrote, wrote_first, wrote_again}
 
 -- what the ghost fields say
 abbrev Ghosts : List (List ℕ) → List ℕ → List ℕ → ℕ → Type 0
-Ghosts slots home free n =
-    (length home ≡ 1025) × ((n ≤ 1024) × ((span n ≤ length slots) × (((i : ℕ) → i < span n → length (get_or slots i []) ≡ 130)
-    × (((i : ℕ) → i < span n → number (get_or slots i []) ≤ n)
-    × (((i : ℕ) → i < span n → (number (get_or slots i []) ≡ 0 → ⊥) → get_or home (number (get_or slots i [])) 0 ≡ i + 1)
-    × (((q : ℕ) → 1 ≤ q → (get_or home q 0 ≡ 0 → ⊥) → number (slot_at slots (get_or home q 0)) ≡ q)
-    × (((q : ℕ) → get_or home q 0 ≤ n + 1)
-    × (((i : ℕ) → i < span n → number (get_or slots i []) ≡ 0 → Absent (i + 1) free → ⊥)
-    × (((k : ℕ) → k < length free → number (slot_at slots (get_or free k 0)) ≡ 0)
-    × (((k : ℕ) → k < length free → get_or free k 0 ≤ n + 1) × Unit {0}))))))))))
+Ghosts slots home free n = record {
+  homes : length home ≡ 1025;
+  few : n ≤ 1024;
+  room : span n ≤ length slots;
+  long : (i : ℕ) → i < span n → length (get_or slots i []) ≡ 130;
+  low : (i : ℕ) → i < span n → number (get_or slots i []) ≤ n;
+  placed : (i : ℕ) → i < span n → (number (get_or slots i []) ≡ 0 → ⊥) → get_or home (number (get_or slots i [])) 0 ≡ i + 1;
+  homed : (q : ℕ) → 1 ≤ q → (get_or home q 0 ≡ 0 → ⊥) → number (slot_at slots (get_or home q 0)) ≡ q;
+  reach : (q : ℕ) → get_or home q 0 ≤ n + 1;
+  listed : (i : ℕ) → i < span n → number (get_or slots i []) ≡ 0 → Absent (i + 1) free → ⊥;
+  vacant : (k : ℕ) → k < length free → number (slot_at slots (get_or free k 0)) ≡ 0;
+  bound : (k : ℕ) → k < length free → get_or free k 0 ≤ n + 1;
+}
 
 span_room : (n m : ℕ) → n < m → span n ≤ m
 span_room zero m h = omega arith
 span_room (suc n) m h = omega arith
 
 pub ghosts : (slots : List (List ℕ)) (home free : List ℕ) (n : ℕ) → Sound slots home free n → Ghosts slots home free n
-ghosts slots home free n S = (
-  S.homes,
-  (
-    S.few,
-    (
-      span_room n (length slots) S.room,
-      (
-        (λ i h. S.long i (span_out n i h).1),
-        (
-          (λ i h. S.low i (span_out n i h).1),
-          (
-            (λ i h. S.placed i (span_out n i h).1),
-            (
-              S.homed,
-              (
-                S.reach,
-                (
-                  (λ i h. S.listed i (span_out n i h).1),
-                  ((λ k h. All-get_or (λ s. number (slot_at slots s) ≡ 0) free k 0 h S.vacant), ((λ k h. All-get_or (λ s. s ≤ n + 1) free k 0 h S.bound), tt)),
-                ),
-              ),
-            ),
-          ),
-        ),
-      ),
-    ),
-  ),
-)
+ghosts slots home free n S = record {
+  homes = S.homes;
+  few = S.few;
+  room = span_room n (length slots) S.room;
+  long = λ i h. S.long i (span_out n i h).1;
+  low = λ i h. S.low i (span_out n i h).1;
+  placed = λ i h. S.placed i (span_out n i h).1;
+  homed = S.homed;
+  reach = S.reach;
+  listed = λ i h. S.listed i (span_out n i h).1;
+  vacant = λ k h. All-get_or (λ s. number (slot_at slots s) ≡ 0) free k 0 h S.vacant;
+  bound = λ k h. All-get_or (λ s. s ≤ n + 1) free k 0 h S.bound;
+}
 
 -- of a store without a page
 pub ghosts_none : (slots : List (List ℕ)) (home free : List ℕ) → length home ≡ 1025 → ((q : ℕ) → get_or home q 0 ≡ 0) → free ≡ [] → Ghosts slots home free 0
-ghosts_none slots home free l h e = (
-  l,
-  (
-    omega arith,
-    (
-      omega arith,
-      (
-        (λ i k. absurd (omega arith)),
-        (
-          (λ i k. absurd (omega arith)),
-          (
-            (λ i k. absurd (omega arith)),
-            (
-              (λ q p z. absurd (z (h q))),
-              (
-                (λ q. omega (arith, h q)),
-                (
-                  (λ i k. absurd (omega arith)),
-                  ((λ k g. absurd (let z = ap length e in omega arith)), ((λ k g. absurd (let z = ap length e in omega arith)), tt)),
-                ),
-              ),
-            ),
-          ),
-        ),
-      ),
-    ),
-  ),
-)
+ghosts_none slots home free l h e = record {
+  homes = l;
+  few = omega arith;
+  room = omega arith;
+  long = λ i k. absurd (omega arith);
+  low = λ i k. absurd (omega arith);
+  placed = λ i k. absurd (omega arith);
+  homed = λ q p z. absurd (z (h q));
+  reach = λ q. omega (arith, h q);
+  listed = λ i k. absurd (omega arith);
+  vacant = λ k g. absurd (let z = ap length e in omega arith);
+  bound = λ k g. absurd (let z = ap length e in omega arith);
+}
 
 pub sound : (b : SlotStore) → 0 < b.pages → Sound b.row.slots.now b.home (numbers b.free) b.pages
 sound b z = record {

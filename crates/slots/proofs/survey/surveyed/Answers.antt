@@ -9,6 +9,6 @@ loop-i-init c = seen_none _ _ _ _ refl refl (λ q. same_again 1025 q 0) (λ s. s
 pub returns-then-k-pages : goal.returns-then-k-pages
 returns-then-k-pages c =
     elim c.then-k-pages.branch [
-      | then-k-pages-via-then-k-pages w ↦ too_high _ _ _ _ _ _ c.loop-i.invariant c.number-of-k.ensures.number c.number-of-k.ensures.long (omega arith) w.if-k-pages.true
-      | then-k-pages-via-else-k-pages+then-home-k-ne0 w ↦ twice _ _ _ _ _ _ c.loop-i.invariant c.number-of-k.ensures.number c.number-of-k.ensures.long (omega arith) w.if-home-k-ne0.true
+      | then-k-pages-via-then-k-pages w ↦ too_high _ _ _ _ _ _ c.loop-i.invariant c.number_of-k.ensures.number c.number_of-k.ensures.long (omega arith) w.if-k-pages.true
+      | then-k-pages-via-else-k-pages+then-home-k-ne0 w ↦ twice _ _ _ _ _ _ c.loop-i.invariant c.number_of-k.ensures.number c.number_of-k.ensures.long (omega arith) w.if-home-k-ne0.true
     ]

@@ -3,8 +3,8 @@ use Rattle.walks.proofs.ChildVisits.{key_below, begins_past, child_at}
 use Rattle.walks.proofs.children.child_visit.Goals as goal
 use Rattle.walks.proofs.children.child_visit.Goals.{then-i-eq0, else-i-eq0, then-i-entries, else-i-entries}
 
-pub overflow-add-lo : goal.overflow-add-lo
-overflow-add-lo c =
+pub overflow_add-lo : goal.overflow_add-lo
+overflow_add-lo c =
     let h = c.requires.within in
     let z = c.if-i-eq0.false in
     omega (arith, key_below c.args.entries.now _ _ (c.args.i - 1) c.requires.keys (omega arith))

@@ -4,9 +4,9 @@ use Rattle.walks.proofs.children.counted.Goals as goal
 
 pub loop-i-preserved : goal.loop-i-preserved
 loop-i-preserved c =
-    let s = c.count-of-sum.ensures.small in
+    let s = c.count_of-sum.ensures.small in
     let i = c.loop-i.invariant.1 in
-    (counted_more c.args.entries.now _ _ _ c.loop-i-test.true c.loop-i.invariant.0 c.count-of-sum.ensures.is, omega arith)
+    (counted_more c.args.entries.now _ _ _ c.loop-i-test.true c.loop-i.invariant.0 c.count_of-sum.ensures.is, omega arith)
 
 pub returns : goal.returns
 returns c =

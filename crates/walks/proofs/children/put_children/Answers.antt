@@ -13,6 +13,6 @@ loop-i-preserved c =
     let same = c.loop-i.invariant.2 in
     let room = c.requires.room in
     let few = length_children (c.args.v.level - 1) c.args.v.hi c.args.entries.now c.args.v.lo in
-    let m = put_more c.loop-i.pending.memory.now _ c.loop-i.pending.used _ c.loop-i.i _ _ _ c.put.result pos (omega arith) (omega arith) c.child-visit.ensures
+    let m = put_more c.loop-i.pending.memory.now _ c.loop-i.pending.used _ c.loop-i.i _ _ _ c.put.result pos (omega arith) (omega arith) c.child_visit.ensures
     c.put.ensures.put c.loop-i.invariant.3 in
     (omega arith, omega (arith, m.0), m.1 ∙ same, m.2)

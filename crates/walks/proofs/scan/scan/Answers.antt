@@ -4,24 +4,24 @@ use Rattle.walks.specs.Scans.{last_page}
 use Rattle.walks.proofs.ScanEnd.{scans_refused, scans_unsummed, scans_summed}
 use Rattle.walks.proofs.scan.scan.Goals as goal
 
-pub returns-in-err-seen : goal.returns-in-err-seen
-returns-in-err-seen g c =
-    let p = err_from_is_err_and c.from-residual.result c.from-residual.ensures.1 in
+pub returns-in_err-seen : goal.returns-in_err-seen
+returns-in_err-seen g c =
+    let p = err_from_is_err_and c.from_residual.result c.from_residual.ensures.1 in
     let ready : 64 ≤ length c.args.work.now = omega arith in
     let low : c.args.height ≤ 6 = omega arith in
-    rw (p.1, p.2) (scans_refused (g.S.PageStore.meaning c.args.store.now) c.args.limit c.args.height c.args.root c.args.total c.args.top c.last-used-last.result (length c.args.work.now)
-    (c.last-used-last.ensures ∙ ap (last_page c.args.limit) c.size.ensures) ready low _ _ _ c.in-err-seen.ensures)
+    rw (p.1, p.2) (scans_refused (g.S.PageStore.meaning c.args.store.now) c.args.limit c.args.height c.args.root c.args.total c.args.top c.last_used-last.result (length c.args.work.now)
+    (c.last_used-last.ensures ∙ ap (last_page c.args.limit) c.size.ensures) ready low _ _ _ c.in_err-seen.ensures)
 
-pub returns-then-not-sums-hold : goal.returns-then-not-sums-hold
-returns-then-not-sums-hold g c =
+pub returns-then-not-sums_hold : goal.returns-then-not-sums_hold
+returns-then-not-sums_hold g c =
     let ready : 64 ≤ length c.args.work.now = omega arith in
     let low : c.args.height ≤ 6 = omega arith in
-    scans_unsummed (g.S.PageStore.meaning c.args.store.now) c.args.limit c.args.height c.args.root c.args.total c.args.top c.last-used-last.result (length c.args.work.now)
-    (c.last-used-last.ensures ∙ ap (last_page c.args.limit) c.size.ensures) ready low c.in-ok-seen.seen _ _ c.in-ok-seen.ensures _ c.if-not-sums-hold.ensures refl
+    scans_unsummed (g.S.PageStore.meaning c.args.store.now) c.args.limit c.args.height c.args.root c.args.total c.args.top c.last_used-last.result (length c.args.work.now)
+    (c.last_used-last.ensures ∙ ap (last_page c.args.limit) c.size.ensures) ready low c.in_ok-seen.seen _ _ c.in_ok-seen.ensures _ c.if-not-sums_hold.ensures refl
 
 pub returns : goal.returns
 returns g c =
     let ready : 64 ≤ length c.args.work.now = omega arith in
     let low : c.args.height ≤ 6 = omega arith in
-    scans_summed (g.S.PageStore.meaning c.args.store.now) c.args.limit c.args.height c.args.root c.args.total c.args.top c.last-used-last.result (length c.args.work.now)
-    (c.last-used-last.ensures ∙ ap (last_page c.args.limit) c.size.ensures) ready low c.in-ok-seen.seen _ _ c.in-ok-seen.ensures tt _ c.if-not-sums-hold.ensures refl
+    scans_summed (g.S.PageStore.meaning c.args.store.now) c.args.limit c.args.height c.args.root c.args.total c.args.top c.last_used-last.result (length c.args.work.now)
+    (c.last_used-last.ensures ∙ ap (last_page c.args.limit) c.size.ensures) ready low c.in_ok-seen.seen _ _ c.in_ok-seen.ensures tt _ c.if-not-sums_hold.ensures refl

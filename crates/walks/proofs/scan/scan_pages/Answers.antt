@@ -35,11 +35,11 @@ loop-v-init g c =
           ))
     ]
 
-pub returns-then-not-is-new : goal.returns-then-not-is-new
-returns-then-not-is-new g c = refused_A (g.S.PageStore.meaning c.args.store.now) (g.S.PageStore.meaning c.loop-v.store) c.loop-v.invariant.0.1 c.loop-v.invariant.1 (popped _ _ _ _ _ c.in-Some.ensures.pop) _ c.if-not-is-new.ensures refl
+pub returns-then-not-is_new : goal.returns-then-not-is_new
+returns-then-not-is_new g c = refused_A (g.S.PageStore.meaning c.args.store.now) (g.S.PageStore.meaning c.loop-v.store) c.loop-v.invariant.0.1 c.loop-v.invariant.1 (popped _ _ _ _ _ c.in-Some.ensures.pop) _ c.if-not-is_new.ensures refl
 
-pub visit-page-requires : goal.visit-page-requires
-visit-page-requires g c =
+pub visit_page-requires : goal.visit_page-requires
+visit_page-requires g c =
     let w = c.loop-v.invariant.0.1 in
     let l = c.in-Some.ensures.pop in
     let n = popped _ _ _ _ _ l in
@@ -50,22 +50,22 @@ visit-page-requires g c =
     let few = others_few w n in
     record { level = next_level w n; room = omega arith }
 
-pub returns-in-err-sum : goal.returns-in-err-sum
-returns-in-err-sum g c =
-    let d = c.if-not-is-new.ensures.0 refl in
-    let p = err_from_is_err_and c.from-residual.result c.from-residual.ensures.1 in
-    rw (p.1, p.2) (visit_refused (g.S.PageStore.meaning c.args.store.now) (g.S.PageStore.meaning c.loop-v.store) c.loop-v.invariant.0.1 c.loop-v.invariant.1 (popped _ _ _ _ _ c.in-Some.ensures.pop) d.0 d.1 d.2 c.requires.pages _ _ _ c.in-err-sum.ensures.visits)
+pub returns-in_err-sum : goal.returns-in_err-sum
+returns-in_err-sum g c =
+    let d = c.if-not-is_new.ensures.0 refl in
+    let p = err_from_is_err_and c.from_residual.result c.from_residual.ensures.1 in
+    rw (p.1, p.2) (visit_refused (g.S.PageStore.meaning c.args.store.now) (g.S.PageStore.meaning c.loop-v.store) c.loop-v.invariant.0.1 c.loop-v.invariant.1 (popped _ _ _ _ _ c.in-Some.ensures.pop) d.0 d.1 d.2 c.requires.pages _ _ _ c.in_err-sum.ensures.visits)
 
-pub overflow-add-sum : goal.overflow-add-sum
-overflow-add-sum g c =
+pub overflow_add-sum : goal.overflow_add-sum
+overflow_add-sum g c =
     let few = few_pages c.loop-v.invariant.0.1 in
     let small = c.loop-v.invariant.0.1.small in
     let last = c.requires.last in
-    let count = c.in-ok-sum.ensures.visits.2.1 in
+    let count = c.in_ok-sum.ensures.visits.2.1 in
     omega arith
 
-pub overflow-add-pages : goal.overflow-add-pages
-overflow-add-pages g c =
+pub overflow_add-pages : goal.overflow_add-pages
+overflow_add-pages g c =
     let few = few_pages c.loop-v.invariant.0.1 in
     let last = c.requires.last in
     omega arith
@@ -78,15 +78,15 @@ loop-v-smaller g c =
 
 pub loop-v-preserved : goal.loop-v-preserved
 loop-v-preserved g c =
-    let d = c.if-not-is-new.ensures.0 refl in
-    let h = c.in-ok-sum.ensures in
+    let d = c.if-not-is_new.ensures.0 refl in
+    let h = c.in_ok-sum.ensures in
     let l = c.in-Some.ensures.pop in
     let p = visit_passed (g.S.PageStore.meaning c.args.store.now) (g.S.PageStore.meaning c.loop-v.store) c.loop-v.invariant.0.1 c.loop-v.invariant.1 (popped _ _ _ _ _ l) d.0 d.1 d.2 c.requires.pages
-    c.in-ok-sum.field-0 (g.S.PageStore.meaning c.visit-page.new.store) (to_come c.visit-page.new.pending.memory.now c.visit-page.new.pending.used) c.requires.last h.visits in
+    c.in_ok-sum.field-0 (g.S.PageStore.meaning c.visit_page.new.store) (to_come c.visit_page.new.pending.memory.now c.visit_page.new.pending.used) c.requires.last h.visits in
     let room = c.loop-v.invariant.2 in
     let size = h.size in
     let same = ap length l.1 in
     ((_, p.0), p.1, omega arith)
 
 pub returns : goal.returns
-returns g c = ends (g.S.PageStore.meaning c.args.store.now) (g.S.PageStore.meaning c.loop-v.store) c.loop-v.invariant.0.1 c.loop-v.invariant.1 (popped_none _ _ _ _ c.in-default.ensures.pop)
+returns g c = ends (g.S.PageStore.meaning c.args.store.now) (g.S.PageStore.meaning c.loop-v.store) c.loop-v.invariant.0.1 c.loop-v.invariant.1 (popped_none _ _ _ _ c.in_default.ensures.pop)

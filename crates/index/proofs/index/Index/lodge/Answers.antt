@@ -35,8 +35,8 @@ returns g c =
     let o = g.O.PointOrder.meaning x.order in
     record {
       step = lodge_copied o (g.met.O.PointOrder.lawful x.order) (mean x.store) (mean c.lodge.new.store) x.is_open x.height x.root x.total (numbers x.free)
-          c.args.x.coords c.in-Ok.address c.in-Ok.ensures c.in-Ok-lodge.copied (mean y.store) (numbers y.free) c.saturating-add-total.result c.settle.result (view mean y).known
-          c.in-Ok-lodge.ensures (λ lt. omega (arith, c.saturating-add-total.ensures)) c.settle.ensures.seals
-          (after_known o mean _ y c.in-Ok-lodge.copied c.saturating-add-total.result c.settle.result c.settle.ensures c.in-Ok.ensures.0);
+          c.args.x.coords c.in-Ok.address c.in-Ok.ensures c.in-Ok-lodge.copied (mean y.store) (numbers y.free) c.saturating_add-total.result c.settle.result (view mean y).known
+          c.in-Ok-lodge.ensures (λ lt. omega (arith, c.saturating_add-total.ensures)) c.settle.ensures.seals
+          (after_known o mean _ y c.in-Ok-lodge.copied c.saturating_add-total.result c.settle.result c.settle.ensures c.in-Ok.ensures.0);
       order = c.settle.ensures.order;
     }

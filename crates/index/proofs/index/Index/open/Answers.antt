@@ -28,7 +28,7 @@ returns-in-Err g c =
     let x = c.args.self.now in
     let mean = g.S.PageStore.meaning in
     let o = g.O.PointOrder.meaning x.order in
-    let w = no_head o (mean x.store) (view mean x).known (length c.args.work.now) c.in-Err.fault (mean c.read-head.new.store) c.if-work-lt64.false c.in-Err.ensures in
+    let w = no_head o (mean x.store) (view mean x).known (length c.args.work.now) c.in-Err.fault (mean c.read_head.new.store) c.if-work-lt64.false c.in-Err.ensures in
     record {
       step = opening_steps o (g.met.O.PointOrder.lawful x.order) (mean x.store) (view mean x).known (length c.args.work.now) _ _ w;
       image = w;
@@ -43,11 +43,11 @@ returns-in-Err-scan g c =
     let h = c.in-Ok.ensures in
     let got : ReadsOurs o (mean x.store) (length c.args.work.now) c.in-Ok.header =
     record { records = c.if-work-lt64.false; there = h.0.there; charged = h.0.charged; proper = h.1.proper; says = h.1.bytes; ours = h.2 } in
-    let last : c.last-usable-last.result ≡ limit (mean x.store) =
-    c.last-usable-last.ensures ∙ ap (λ (n : ℕ). min n 1024) c.size.ensures ∙ ap (λ (i : Image). min (length i.pages) 1024) h.0.spends in
+    let last : c.last_usable-last.result ≡ limit (mean x.store) =
+    c.last_usable-last.ensures ∙ ap (λ (n : ℕ). min n 1024) c.size.ensures ∙ ap (λ (i : Image). min (length i.pages) 1024) h.0.spends in
     let w = scan_refused o (mean x.store) (view mean x).known (length c.args.work.now) c.in-Ok.header c.in-Err-scan.fault (mean c.scan.new.store) c.scan.new.marks got
-    (scans_at o (mean x.store) (mean c.read-head.new.store) c.last-usable-last.result c.top-of-top.result c.in-Ok.header (length c.args.work.now) (Err c.in-Err-scan.fault)
-    (mean c.scan.new.store) c.scan.new.marks h.0.spends last c.top-of-top.ensures c.in-Err-scan.ensures) in
+    (scans_at o (mean x.store) (mean c.read_head.new.store) c.last_usable-last.result c.top_of-top.result c.in-Ok.header (length c.args.work.now) (Err c.in-Err-scan.fault)
+    (mean c.scan.new.store) c.scan.new.marks h.0.spends last c.top_of-top.ensures c.in-Err-scan.ensures) in
     record {
       step = opening_steps o (g.met.O.PointOrder.lawful x.order) (mean x.store) (view mean x).known (length c.args.work.now) _ _ w;
       image = w;
@@ -62,13 +62,13 @@ returns g c =
     let h = c.in-Ok.ensures in
     let got : ReadsOurs o (mean x.store) (length c.args.work.now) c.in-Ok.header =
     record { records = c.if-work-lt64.false; there = h.0.there; charged = h.0.charged; proper = h.1.proper; says = h.1.bytes; ours = h.2 } in
-    let last : c.last-usable-last.result ≡ limit (mean x.store) =
-    c.last-usable-last.ensures ∙ ap (λ (n : ℕ). min n 1024) c.size.ensures ∙ ap (λ (i : Image). min (length i.pages) 1024) h.0.spends in
+    let last : c.last_usable-last.result ≡ limit (mean x.store) =
+    c.last_usable-last.ensures ∙ ap (λ (n : ℕ). min n 1024) c.size.ensures ∙ ap (λ (i : Image). min (length i.pages) 1024) h.0.spends in
     let free : numbers c.rising-self.result ≡ unmarked c.scan.new.marks 2 (limit (mean x.store) - 1) =
     c.rising-self.ensures ∙ ap (unmarked c.scan.new.marks 2) (omega (arith, last)) in
     let w = scan_accepted o (mean x.store) (view mean x).known (length c.args.work.now) c.in-Ok.header (mean c.scan.new.store) c.scan.new.marks (numbers c.rising-self.result) got
-    (scans_at o (mean x.store) (mean c.read-head.new.store) c.last-usable-last.result c.top-of-top.result c.in-Ok.header (length c.args.work.now) (Ok tt)
-    (mean c.scan.new.store) c.scan.new.marks h.0.spends last c.top-of-top.ensures c.in-Ok-scan.ensures) free in
+    (scans_at o (mean x.store) (mean c.read_head.new.store) c.last_usable-last.result c.top_of-top.result c.in-Ok.header (length c.args.work.now) (Ok tt)
+    (mean c.scan.new.store) c.scan.new.marks h.0.spends last c.top_of-top.ensures c.in-Ok-scan.ensures) free in
     record {
       step = opening_steps o (g.met.O.PointOrder.lawful x.order) (mean x.store) (view mean x).known (length c.args.work.now) _ _ w;
       image = w;

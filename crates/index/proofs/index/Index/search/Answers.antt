@@ -9,11 +9,11 @@ pub returns : goal.returns
 returns g c =
     let x = c.args.self.now in
     let mean = g.S.PageStore.meaning in
-    let done = c.search-tree.ensures in
+    let done = c.search_tree.ensures in
     record {
-      law = run_law (g.O.PointOrder.meaning x.order) (g.met.O.PointOrder.lawful x.order) (view mean x) (view mean c.search-tree.new.self) (told_found c.search-tree.result c.search-tree.new.memory)
+      law = run_law (g.O.PointOrder.meaning x.order) (g.met.O.PointOrder.lawful x.order) (view mean x) (view mean c.search_tree.new.self) (told_found c.search_tree.result c.search_tree.new.memory)
           c.args.query.now.low.coords c.args.query.now.high.coords c.args.start (length c.args.memory.now) done.step;
-      ending = ending_law (g.O.PointOrder.meaning x.order) (view mean x) (view mean c.search-tree.new.self) (told_found c.search-tree.result c.search-tree.new.memory)
+      ending = ending_law (g.O.PointOrder.meaning x.order) (view mean x) (view mean c.search_tree.new.self) (told_found c.search_tree.result c.search_tree.new.memory)
           c.args.query.now.low.coords c.args.query.now.high.coords c.args.start (length c.args.memory.now) done.step;
       step = done.step;
       lent = done.lent;

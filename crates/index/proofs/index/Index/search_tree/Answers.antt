@@ -33,9 +33,9 @@ returns g c =
     let mean = g.S.PageStore.meaning in
     record {
       step = searched_at (g.O.PointOrder.meaning x.order) (mean x.store) (mean c.search.new.store) x.is_open x.height x.root x.total (numbers x.free)
-          c.args.query.now.low.coords c.args.query.now.high.coords c.low.result.coords c.high.result.coords c.args.start c.top-of-top.result c.in-default.field-0 c.in-default-located.field-0
+          c.args.query.now.low.coords c.args.query.now.high.coords c.low.result.coords c.high.result.coords c.args.start c.top_of-top.result c.in_default.field-0 c.in_default-located.field-0
           c.args.memory.now c.search.new.memory c.search.result (ap (λ (p : Point). p.coords) c.low.ensures) (ap (λ (p : Point). p.coords) c.high.ensures)
-          c.in-default.ensures c.in-default-located.ensures c.top-of-top.ensures c.search.ensures;
+          c.in_default.ensures c.in_default-located.ensures c.top_of-top.ensures c.search.ensures;
       lent = (c.search.ensures.fits, c.search.ensures.lent);
       order = refl;
     }

@@ -35,8 +35,8 @@ returns g c =
     let o = g.O.PointOrder.meaning x.order in
     record {
       step = withdraw_copied o (mean x.store) (mean c.withdraw.new.store) x.is_open x.height x.root x.total (numbers x.free)
-          c.args.x.coords c.in-Ok.address c.in-Ok.ensures c.in-Ok-withdraw.copied (mean y.store) (numbers y.free) c.saturating-sub-total.result c.settle.result (view mean y).known
-          c.in-Ok-withdraw.ensures c.saturating-sub-total.ensures c.settle.ensures.seals
-          (after_known o mean _ y c.in-Ok-withdraw.copied c.saturating-sub-total.result c.settle.result c.settle.ensures c.in-Ok.ensures.0);
+          c.args.x.coords c.in-Ok.address c.in-Ok.ensures c.in-Ok-withdraw.copied (mean y.store) (numbers y.free) c.saturating_sub-total.result c.settle.result (view mean y).known
+          c.in-Ok-withdraw.ensures c.saturating_sub-total.ensures c.settle.ensures.seals
+          (after_known o mean _ y c.in-Ok-withdraw.copied c.saturating_sub-total.result c.settle.result c.settle.ensures c.in-Ok.ensures.0);
       order = c.settle.ensures.order;
     }

@@ -5,8 +5,8 @@ use Rattle.slots.proofs.store.SlotStore.copy_page.Goals as goal
 pub returns-then-s-eq0 : goal.returns-then-s-eq0
 returns-then-s-eq0 c = page_none c.args.self.now c.args.page c.requires.low c.requires.high c.if-s-eq0.true
 
-pub copy-out-requires : goal.copy-out-requires
-copy-out-requires c = record { low = omega arith; high = home_in c.args.self.now c.args.page c.requires.low c.requires.high; long = home_long c.args.self.now c.args.page c.requires.low c.requires.high c.if-s-eq0.false }
+pub copy_out-requires : goal.copy_out-requires
+copy_out-requires c = record { low = omega arith; high = home_in c.args.self.now c.args.page c.requires.low c.requires.high; long = home_long c.args.self.now c.args.page c.requires.low c.requires.high c.if-s-eq0.false }
 
 pub returns-else-s-eq0 : goal.returns-else-s-eq0
-returns-else-s-eq0 c = page_some c.args.self.now c.args.page c.requires.low c.requires.high _ c.if-s-eq0.false c.copy-out.ensures
+returns-else-s-eq0 c = page_some c.args.self.now c.args.page c.requires.low c.requires.high _ c.if-s-eq0.false c.copy_out.ensures

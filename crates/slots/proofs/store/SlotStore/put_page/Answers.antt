@@ -9,20 +9,20 @@ pub fill-requires : goal.fill-requires
 fill-requires c =
     record { low = c.in-Some.ensures.0; high = in_slots c.args.self.now c.in-Some.s c.args.page c.args.from.now _ c.in-Some.ensures c.requires.low c.requires.high }
 
-pub invariant-of-self : goal.invariant-of-self
-invariant-of-self c =
+pub invariant_of-self : goal.invariant_of-self
+invariant_of-self c =
     ghosts _ _ _ _ (again c.args.self.now c.in-Some.s c.args.page c.args.from.now _ c.in-Some.ensures c.requires.low c.requires.high c.told-from _ c.fill.ensures.slots
-    _ refl c.if-old-ne0.true _ _ c.put-front.result c.clear.ensures.slots c.put-front.ensures).sound
+    _ refl c.if-old-ne0.true _ _ c.put_front.result c.clear.ensures.slots c.put_front.ensures).sound
 
-pub invariant-of-self-else-old-ne0 : goal.invariant-of-self-else-old-ne0
-invariant-of-self-else-old-ne0 c =
+pub invariant_of-self-else-old-ne0 : goal.invariant_of-self-else-old-ne0
+invariant_of-self-else-old-ne0 c =
     ghosts _ _ _ _ (first_time c.args.self.now c.in-Some.s c.args.page c.args.from.now _ c.in-Some.ensures c.requires.low c.requires.high c.told-from _ c.fill.ensures.slots
     c.if-old-ne0.false).sound
 
 pub returns-then-old-ne0 : goal.returns-then-old-ne0
 returns-then-old-ne0 c =
     let w = again c.args.self.now c.in-Some.s c.args.page c.args.from.now _ c.in-Some.ensures c.requires.low c.requires.high c.told-from _ c.fill.ensures.slots
-    _ refl c.if-old-ne0.true _ _ c.put-front.result c.clear.ensures.slots c.put-front.ensures in
+    _ refl c.if-old-ne0.true _ _ c.put_front.result c.clear.ensures.slots c.put_front.ensures in
     record {
       pages = w.pages;
       stores = stores c.args.self.now c.in-Some.s c.args.page c.args.from.now _ c.in-Some.ensures c.requires.low c.requires.high _ _ w;

@@ -3,11 +3,11 @@ use Rattle.std.proofs.lemmas.Result.{err_from_is_err_and}
 use Rattle.slots.proofs.Accesses.{writes_yes, writes_no}
 use Rattle.slots.proofs.store.access.SlotStorePageStore.write.Goals as goal
 
-pub returns-in-err-access : goal.returns-in-err-access
-returns-in-err-access c =
-    let p = err_from_is_err_and c.from-residual.result c.from-residual.ensures.1 in
+pub returns-in_err-access : goal.returns-in_err-access
+returns-in_err-access c =
+    let p = err_from_is_err_and c.from_residual.result c.from_residual.ensures.1 in
     rw (p.1, p.2) (record {
-      write = writes_no c.args.self.now.row.slots.now c.args.self.now.pages c.args.self.now.charge.left c.args.page _ c.args.from.now _ c.in-err-access.ensures;
+      write = writes_no c.args.self.now.row.slots.now c.args.self.now.pages c.args.self.now.charge.left c.args.page _ c.args.from.now _ c.in_err-access.ensures;
       stores = (refl, refl);
       lent = refl;
     })
@@ -16,7 +16,7 @@ pub returns : goal.returns
 returns c =
     record {
       write = writes_yes c.args.self.now.row.slots.now c.args.self.now.pages c.args.self.now.charge.left c.args.page c.access.new.self.left _ _ c.args.from.now _
-          c.in-ok-access.ensures c.put-page.ensures.charge c.put-page.ensures.size c.put-page.ensures.pages;
-      stores = c.put-page.ensures.stores;
-      lent = c.put-page.ensures.lent;
+          c.in_ok-access.ensures c.put_page.ensures.charge c.put_page.ensures.size c.put_page.ensures.pages;
+      stores = c.put_page.ensures.stores;
+      lent = c.put_page.ensures.lent;
     }
