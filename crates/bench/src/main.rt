@@ -1,4 +1,6 @@
 // The bench: runs a script line by line and prints what each line did.
+#![tactic(auto)]
+
 use session::run::run_script;
 use std::{env, fs, io};
 

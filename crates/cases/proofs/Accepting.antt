@@ -1,5 +1,5 @@
 -- A lodge whose questions are all answered yes is accepted, or lacks the charge for its header.
-use Rattle.std.proofs.Common.{◌≡◌, ℕ, zero, suc, ◌+◌, ◌-◌, ◌<◌, ◌≤◌, min, List, [], ◌∷◌, ◌++◌, length, Ok, Err, Result, sym, refl, ap, ◌∙◌, subst, arith, length-append}
+use Rattle.std.proofs.Common.{◌≡◌, ℕ, zero, suc, ◌+◌, ◌-◌, ◌<◌, ◌≤◌, List, [], ◌∷◌, length, Ok, Err, refl, ap, ◌∙◌, subst, arith, length-append}
 use Rattle.pages.specs.Image.{Image}
 use Rattle.orders.specs.Orders.{Order, InSpaceOf}
 use Rattle.tree.specs.Tree.{count_at}
@@ -10,18 +10,17 @@ use Rattle.faults.specs.Accesses.{contents}
 use Rattle.faults.specs.declared.fault.Fault.{Fault}
 use Rattle.faults.specs.declared.fault.Fault.TheVariants.{Shut, Outside, Work, Absent, Unread, NoHeader, OtherOrder, Unsound, NoEvent, CountFull, HeightFull, Room, Unwritten}
 use Rattle.paths.specs.declared.copied.Copied.{Copied}
-use Rattle.paths.specs.PathsWrites.{after_reads, stored}
-use Rattle.paths.specs.LodgeKept.{Lodges, LodgeDone}
+use Rattle.paths.specs.PathsWrites.{after_reads}
+use Rattle.paths.specs.LodgeKept.{Lodges}
 use Rattle.paths.proofs.PathsWriting.{stored_charge}
-use Rattle.index.specs.Model.{Call, Answer, State, Known, state, limit}
+use Rattle.index.specs.Model.{Answer, State, Known, state, limit}
 use Rattle.index.specs.Model.Call.{lodges}
 use Rattle.index.specs.Model.Answer.{accepted, refused}
-use Rattle.index.specs.Model.Known.{shut, knows}
 use Rattle.index.specs.Keeping.{Content, Filed, Kept, Holds, top}
-use Rattle.index.specs.Keeping.Content.{blank, filed}
+use Rattle.index.specs.Keeping.Content.{filed}
 use Rattle.index.specs.Changes.{Changes, tree_state, file_of, known_of}
 use Rattle.index.specs.Changes.Changes.{copy_refused, header_unpaid, changed}
-use Rattle.index.specs.Steps.{Step, Goes, Does}
+use Rattle.index.specs.Steps.{Step, Does}
 use Rattle.index.specs.Steps.Names.{lodging}
 use Rattle.index.specs.Steps.Does.{not_open, outside, lodged}
 

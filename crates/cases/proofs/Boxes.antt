@@ -1,5 +1,5 @@
 -- A statement of all addresses of a box, by one test that is computed at every address of the space.
-use Rattle.std.proofs.Common.{◌≡◌, ℕ, zero, suc, ◌<◌, ◌≤◌, Bool, true, false, not, T, eqb, ltb, leb, ◌⊎◌, List, [], ◌∷◌, get_or, sym, subst, inl, inr, arith, le→leb, eqb→eq, ltb→lt, leb→le, T_not}
+use Rattle.std.proofs.Common.{ℕ, zero, suc, ◌<◌, Bool, true, false, not, T, eqb, ltb, leb, List, [], ◌∷◌, get_or, sym, subst, inl, inr, arith, le→leb, eqb→eq, ltb→lt, leb→le, T_not}
 use Rattle.std.proofs.lemmas.Bool.{cases_eq}
 use Rattle.orders.specs.Spaces.{Within}
 use Rattle.orders.specs.Orders.{Order, size, InBox}

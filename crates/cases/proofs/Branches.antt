@@ -1,26 +1,26 @@
 -- The day in the 8 x 8 space.
-use Rattle.std.proofs.Common.{◌≡◌, ℕ, zero, suc, ◌+◌, ◌-◌, ◌*◌, ◌^◌, ◌<◌, ◌≤◌, min, Bool, true, false, cond, ◌&&◌, ltb, leb, ◌⊎◌, List, [], ◌∷◌, ◌++◌, map, length, get_or, take, sym, refl, ap, ◌∙◌, subst, inl, inr, arith, lit<, lit≤}
+use Rattle.std.proofs.Common.{◌≡◌, ℕ, zero, suc, ◌+◌, ◌-◌, ◌^◌, ◌<◌, ◌≤◌, min, Bool, true, ◌&&◌, ltb, leb, List, [], ◌∷◌, ◌++◌, map, length, get_or, take, sym, refl, ap, ◌∙◌, subst, inl, inr, arith, lit<, lit≤}
 use Rattle.std.proofs.lemmas.Bool.{and_parts, leb-true, ltb-true}
 use Rattle.pages.specs.Image.{Image, Blank, at}
 use Rattle.layout.specs.declared.header.Header.{Header}
 use Rattle.layout.specs.Heads.{header_bytes, Proper}
-use Rattle.orders.specs.Orders.{Order, Lawful, InSpaceOf}
+use Rattle.orders.specs.Orders.{InSpaceOf}
 use Rattle.tree.specs.Tree.{count_at}
 use Rattle.tree.specs.CopyMoves.{State as TreeState, lodge_step}
 use Rattle.tree.specs.CopyLaws.{lodge_takes, events_of, usable}
 use Rattle.tree.specs.Tree.Held.{none}
-use Rattle.index.specs.Model.{Call, Answer, State, Known, state, limit}
+use Rattle.index.specs.Model.{Call, Answer, State, state}
 use Rattle.index.specs.Model.Call.{formats, lodges, grants}
 use Rattle.index.specs.Model.Answer.{accepted, refused}
 use Rattle.index.specs.Model.Known.{shut, knows}
-use Rattle.index.specs.Keeping.{Content, Filed, Kept, Holds, Ours, top}
-use Rattle.index.specs.Keeping.Content.{blank, filed}
-use Rattle.index.specs.Changes.{file_of, known_of}
-use Rattle.index.specs.Steps.{Step, Goes, Does, empty_file}
+use Rattle.index.specs.Keeping.{Content, Kept, Ours, top}
+use Rattle.index.specs.Keeping.Content.{blank}
+use Rattle.index.specs.Changes.{file_of}
+use Rattle.index.specs.Steps.{Step, Does}
 use Rattle.index.specs.Steps.Does.{formatted, format_absent, format_uncharged, given, not_open, outside}
 use Rattle.cases.specs.EightByEight.{z}
 use Rattle.cases.specs.EightByEight as eight
-use Rattle.cases.specs.Branch.{Chain, points, day, all_accepted, Enough, Short, singles, twelve_accepted}
+use Rattle.cases.specs.Branch.{Chain, points, all_accepted, Enough, Short}
 use Rattle.cases.proofs.Accepting.{At, Yes, Ended, lodge_ends}
 
 -- the empty tree over 16 pages

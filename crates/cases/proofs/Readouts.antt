@@ -1,5 +1,5 @@
 -- The searches after the day in the 8 x 8 space.
-use Rattle.std.proofs.Common.{◌≡◌, ℕ, List, [], ◌∷◌, ◌++◌, map, length, sym, refl, ap, ◌∙◌, subst, lit<}
+use Rattle.std.proofs.Common.{◌≡◌, ℕ, List, [], ◌∷◌, ◌++◌, map, length, refl, ap, ◌∙◌, subst, lit<}
 use Rattle.pages.specs.Image.{Image, Blank}
 use Rattle.tree.specs.CopyMoves.{State as TreeState}
 use Rattle.tree.specs.SearchSteps.{first}
@@ -8,7 +8,7 @@ use Rattle.index.specs.Model.{Call, Answer, State, state}
 use Rattle.index.specs.Model.Call.{lodges, searches, grants}
 use Rattle.index.specs.Model.Answer.{accepted}
 use Rattle.index.specs.Model.Known.{shut}
-use Rattle.index.specs.Keeping.{Content, Filed, Holds}
+use Rattle.index.specs.Keeping.{Content, Filed}
 use Rattle.index.specs.Keeping.Content.{filed}
 use Rattle.index.specs.Changes.{file_of}
 use Rattle.index.specs.Searched.{search_of, answer_of}

@@ -3,7 +3,6 @@ use Rattle.std.specs.Prelude.{◌≡◌, ℕ, ◌-◌, List, [], Ok, Err, Result
 use Rattle.pages.specs.Image.{Image, Reads, Writes}
 use Rattle.layout.specs.Bytes.{content_of}
 use Rattle.tree.specs.Tree.{Contents}
-use Rattle.faults.specs.declared.fault.Access.{Access}
 use Rattle.faults.specs.declared.fault.ReadRefused.{ReadRefused}
 use Rattle.faults.specs.declared.fault.WriteRefused.{WriteRefused}
 

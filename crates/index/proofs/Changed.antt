@@ -1,7 +1,7 @@
 -- A path copy and the header over it make a step.
-use Rattle.std.proofs.Common.{◌≡◌, ℕ, suc, ◌+◌, ◌-◌, ◌<◌, ◌≤◌, min, List, [], ◌∷◌, ◌++◌, length, drop, Ok, Err, Result, sym, refl, ap, ◌∙◌, subst, inl, inr, arith}
+use Rattle.std.proofs.Common.{◌≡◌, ℕ, ◌≤◌, min, List, [], ◌∷◌, ◌++◌, length, drop, Ok, Err, Result, sym, refl, ◌∙◌, subst, inl, inr, arith}
 use Rattle.std.specs.List.{AllByRecursion as All}
-use Rattle.pages.specs.Image.{Image, at, written, Writes, Has}
+use Rattle.pages.specs.Image.{Image, at, written, Writes}
 use Rattle.pages.specs.declared.fault.StoreFault.{StoreFault}
 use Rattle.pages.specs.declared.fault.StoreFault.TheVariants.{Absent, Uncharged}
 use Rattle.layout.specs.Heads.{header_bytes}
@@ -13,13 +13,12 @@ use Rattle.tree.proofs.CopyKept.{range_law}
 use Rattle.faults.specs.Accesses.{contents}
 use Rattle.faults.specs.Refusals.{unwritten}
 use Rattle.faults.specs.declared.fault.Fault.{Fault}
-use Rattle.faults.specs.declared.fault.Access.{Access}
 use Rattle.paths.specs.declared.copied.Copied.{Copied}
 use Rattle.paths.specs.PathsReading.{back}
 use Rattle.index.specs.Model.{Call, Answer, State, Known, state, limit, refusal, told}
 use Rattle.index.specs.Model.Answer.{accepted, refused}
 use Rattle.index.specs.Model.Known.{knows}
-use Rattle.index.specs.Keeping.{Content, Filed, Kept, Holds, header_for, top}
+use Rattle.index.specs.Keeping.{Content, Filed, Holds, header_for, top}
 use Rattle.index.specs.Keeping.Content.{filed}
 use Rattle.index.specs.Changes.{Changes, tree_state, file_of, known_of}
 use Rattle.index.specs.Changes.Changes.{copy_refused, header_unpaid, changed}

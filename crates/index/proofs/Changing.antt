@@ -1,19 +1,17 @@
 -- A change of the tree keeps what ties the index to its memory.
-use Rattle.std.proofs.Common.{◌≡◌, ℕ, suc, ◌+◌, ◌-◌, ◌<◌, ◌≤◌, min, List, [], ◌∷◌, length, get_or, set, sym, refl, ap, ◌∙◌, subst, arith, length-set, get_or-set_other, get_or-set_same}
+use Rattle.std.proofs.Common.{◌≡◌, ℕ, ◌-◌, ◌≤◌, min, List, [], length, set, sym, refl, ap, ◌∙◌, subst, arith, length-set, get_or-set_other, get_or-set_same}
 use Rattle.pages.specs.Image.{Image, at, written}
 use Rattle.layout.specs.Bytes.{content_of}
 use Rattle.layout.specs.Heads.{header_bytes}
-use Rattle.orders.specs.Orders.{Order, Lawful}
-use Rattle.tree.specs.Tree.{Node, Held, Contents}
+use Rattle.orders.specs.Orders.{Order}
 use Rattle.tree.specs.CopyMoves.{State as TreeState}
-use Rattle.tree.specs.CopyLaws.{Kept as TreeKept, SoundOf, Within, events_of, pages_of, root_of, usable}
+use Rattle.tree.specs.CopyLaws.{Kept as TreeKept, SoundOf, Within, events_of, usable}
 use Rattle.tree.specs.CopyWrites.{times}
 use Rattle.tree.proofs.CopyKept.{agree_law}
 use Rattle.faults.specs.Accesses.{contents}
-use Rattle.index.specs.Model.{State, Known, state, limit}
-use Rattle.index.specs.Model.Known.{shut, knows}
-use Rattle.index.specs.Keeping.{Content, Filed, Kept, Holds, Agrees, header_for, top}
-use Rattle.index.specs.Keeping.Content.{blank, filed}
+use Rattle.index.specs.Model.{Known, state, limit}
+use Rattle.index.specs.Model.Known.{knows}
+use Rattle.index.specs.Keeping.{Filed, Holds, Agrees, header_for, top}
 use Rattle.index.specs.Changes.{tree_state, file_of, known_of}
 
 -- what an open index knows of a tree on file

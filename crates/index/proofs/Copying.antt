@@ -1,5 +1,5 @@
 -- A call that copies a path is a step: what is left to show of it is said once for lodge and withdraw.
-use Rattle.std.proofs.Common.{◌≡◌, ℕ, ◌≤◌, Bool, List, [], ◌∷◌, length, Ok, Err, Result, sym, refl, ap, ◌∙◌, subst, arith}
+use Rattle.std.proofs.Common.{◌≡◌, ℕ, ◌≤◌, Bool, List, [], ◌∷◌, length, Ok, Err, Result, ◌∙◌, subst, arith}
 use Rattle.std.specs.List.{AllByRecursion as All}
 use Rattle.pages.specs.Image.{Image, at}
 use Rattle.orders.specs.Orders.{Order}

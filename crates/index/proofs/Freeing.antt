@@ -1,10 +1,9 @@
 -- Taking pages from a free list and putting a path back.
-use Rattle.std.proofs.Common.{◌≡◌, ℕ, zero, suc, ◌+◌, ◌-◌, ◌<◌, ◌≤◌, Bool, true, false, List, [], ◌∷◌, ◌++◌, length, get_or, drop, Some, None, Option, sym, refl, ap, ◌∙◌, subst, add-zero, add-suc, add-one, arith}
-use Rattle.std.specs.List.{AllByRecursion as All}
+use Rattle.std.proofs.Common.{◌≡◌, ℕ, zero, suc, ◌+◌, ◌-◌, ◌<◌, Bool, true, false, List, [], ◌∷◌, ◌++◌, get_or, drop, Some, None, Option, sym, refl, ap, ◌∙◌, add-zero, add-suc, add-one, arith}
 use Rattle.records.specs.Chain.{Takes, Puts}
 use Rattle.tree.specs.Tree.{Apart}
 use Rattle.paths.specs.PathsReading.{back}
-use Rattle.index.specs.Freed.{FitsList, GivenBack}
+use Rattle.index.specs.Freed.{FitsList}
 
 -- dropping one more is dropping the front of what is left
 drop_front : (i : ℕ) (xs ys : List ℕ) (k : ℕ) → drop i xs ≡ k ∷ ys → drop (suc i) xs ≡ ys

@@ -1,14 +1,13 @@
 -- The header of a tree on file is proper, and says which tree it is.
-use Rattle.std.proofs.Common.{◌≡◌, ℕ, zero, suc, ◌+◌, ◌-◌, ◌^◌, ◌<◌, ◌≤◌, min, List, [], ◌∷◌, ◌++◌, length, sym, refl, ap, ◌∙◌, subst, inl, inr, arith}
+use Rattle.std.proofs.Common.{◌≡◌, ℕ, zero, suc, ◌^◌, ◌<◌, ◌≤◌, List, [], ◌∷◌, sym, refl, ap, ◌∙◌, inl, inr, arith}
 use Rattle.std.specs.List.{AllByRecursion as All}
-use Rattle.pages.specs.Image.{Image}
 use Rattle.layout.specs.declared.entry.Entry.{Entry}
 use Rattle.layout.specs.declared.header.Header.{Header}
 use Rattle.layout.specs.Heads.{header_bytes, header_of, Proper, AllOrNone}
 use Rattle.layout.specs.Content.{Sized, LeafKeys}
 use Rattle.layout.proofs.Headings.{header_back}
 use Rattle.orders.specs.Orders.{Order, Lawful}
-use Rattle.tree.specs.Tree.{Node, Forest, Held, Contents, Sound, Level, Filled, FilledIn, Ordered, OrderedIn, number, pages, events, events_in, counts}
+use Rattle.tree.specs.Tree.{Node, Forest, Held, Contents, Level, Filled, FilledIn, Ordered, OrderedIn, number, pages, events, events_in, counts}
 use Rattle.tree.specs.Tree.Node.{leaf, inner}
 use Rattle.tree.specs.Tree.Forest.{last, more}
 use Rattle.tree.specs.Tree.Held.{none, held}

@@ -1,8 +1,8 @@
 -- The answers of reading the header.
-use Rattle.std.proofs.Common.{◌≡◌, ℕ, ◌-◌, ◌*◌, ◌%◌, ◌^◌, ◌<◌, ◌≤◌, Bool, true, false, List, [], length, Ok, Err, sym, refl, ap, ◌∙◌, mod-eq_of_lt, one-mul, arith, pow_pos}
+use Rattle.std.proofs.Common.{◌≡◌, ℕ, ◌*◌, ◌%◌, ◌^◌, ◌<◌, ◌≤◌, List, [], Ok, Err, sym, refl, ◌∙◌, mod-eq_of_lt, one-mul, arith, pow_pos}
 use lib.Pow.{pow-lt}
 use Rattle.std.proofs.lemmas.Nat.{mul-le}
-use Rattle.pages.specs.Image.{Image, at, Reads}
+use Rattle.pages.specs.Image.{Image, Reads}
 use Rattle.pages.specs.declared.fault.StoreFault.{StoreFault}
 use Rattle.pages.specs.declared.fault.StoreFault.TheVariants.{Absent, Uncharged}
 use Rattle.layout.specs.declared.header.Header.{Header}
@@ -11,9 +11,9 @@ use Rattle.orders.specs.Orders.{Order, Lawful, size}
 use Rattle.faults.specs.declared.fault.Access.{Access}
 use Rattle.faults.specs.declared.fault.Fault.TheVariants.{OtherOrder}
 use Rattle.faults.specs.Refusals.{unread}
-use Rattle.index.specs.Head.{Got, Says, NoHead, ReadsHead}
+use Rattle.index.specs.Head.{ReadsHead}
 use Rattle.index.specs.Head.NoHead.{refused, other}
-use Rattle.index.specs.Keeping.{Ours, top}
+use Rattle.index.specs.Keeping.{Ours}
 
 -- a refused read does not say what the lent page held
 refuses : (m m' : Image) (p : ℕ) (old new : List ℕ) (f : StoreFault) → Reads m p old (Err f) m' new → Reads m p [] (Err f) m' []

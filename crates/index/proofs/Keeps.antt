@@ -2,9 +2,9 @@
 use Rattle.std.proofs.Common.{◌≡◌, ℕ, sym, refl, subst}
 use Rattle.pages.specs.Image.{Image}
 use Rattle.orders.specs.Orders.{Order}
-use Rattle.index.specs.Model.{State, Known, state}
-use Rattle.index.specs.Model.Known.{shut, knows}
-use Rattle.index.specs.Keeping.{Content, Filed, Kept, Holds}
+use Rattle.index.specs.Model.{Known, state}
+use Rattle.index.specs.Model.Known.{shut}
+use Rattle.index.specs.Keeping.{Content, Kept}
 use Rattle.index.specs.Keeping.Content.{blank, filed}
 
 -- the same pages at another charge

@@ -1,10 +1,10 @@
 -- How a search ends.
-use Rattle.std.proofs.Common.{◌≡◌, ℕ, zero, suc, ◌+◌, ◌-◌, ◌<◌, ◌≤◌, Bool, true, false, List, [], ◌∷◌, ◌++◌, map, length, Decides, filter, sym, refl, ap, ◌∙◌, subst, arith}
+use Rattle.std.proofs.Common.{◌≡◌, ℕ, zero, suc, ◌≤◌, List, [], ◌∷◌, map, Decides, sym, refl, ap, ◌∙◌, subst, arith}
 use mathlib.Core.List.{map-append}
 use lib.ListN.{length-map}
 use Rattle.layout.specs.declared.entry.Entry.{Entry}
-use Rattle.orders.specs.Orders.{Order, InSpaceOf}
-use Rattle.tree.specs.Tree.{Node, Held, Contents, Ordered}
+use Rattle.orders.specs.Orders.{Order}
+use Rattle.tree.specs.Tree.{Node, Held}
 use Rattle.tree.specs.Tree.Held.{none, held}
 use Rattle.tree.specs.CopyLaws.{SoundOf}
 use Rattle.tree.specs.SearchSteps.{Region, Hit, Step, search_steps, found_of, from, met, regions}
@@ -25,12 +25,11 @@ use Rattle.searches.specs.Inside.{inside}
 use Rattle.searches.specs.Finds.{find_of}
 use Rattle.searches.specs.Searching.{finds_of}
 use Rattle.searches.proofs.Insides.{inside_decides}
-use Rattle.index.specs.Model.{Answer, State, state, limit}
+use Rattle.index.specs.Model.{Answer, State, limit}
 use Rattle.index.specs.Model.Call.{searches}
 use Rattle.index.specs.Model.Answer.{found}
 use Rattle.index.specs.Keeping.{Content, Filed, Kept, Holds, top}
-use Rattle.index.specs.Keeping.Content.{filed}
-use Rattle.index.specs.Searched.{search_of, answer_of}
+use Rattle.index.specs.Searched.{search_of}
 use Rattle.index.specs.Steps.{Step as IndexStep, Does}
 use Rattle.index.specs.Steps.Does.{not_open, outside, searched}
 use Rattle.index.specs.Law.{NumberOf}

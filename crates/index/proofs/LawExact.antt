@@ -1,10 +1,10 @@
 -- The events of a box in the leaves are exactly the points of the box that hold events, with what they hold.
-use Rattle.std.proofs.Common.{◌≡◌, ℕ, suc, ◌+◌, ◌-◌, ◌<◌, ◌≤◌, Bool, true, false, cond, eqb, List, [], ◌∷◌, ◌++◌, map, length, filter, sym, refl, ap, ◌∙◌, subst, arith}
+use Rattle.std.proofs.Common.{◌≡◌, ℕ, suc, ◌+◌, ◌<◌, ◌≤◌, Bool, true, false, cond, List, [], ◌∷◌, map, filter, sym, refl, ap, ◌∙◌, subst, arith}
 use Rattle.std.specs.List.{ContainsAt as Has, AllByRecursion as All}
 use Rattle.std.proofs.ByRecursion.{All-weaker, All-map, all-has, all_kept_by, kept_by_passes, has_push, has_append_left, has_append_right}
 use Rattle.layout.specs.declared.entry.Entry.{Entry}
 use Rattle.layout.specs.Content.{LeafKeys}
-use Rattle.orders.specs.Orders.{Order, Lawful, InSpaceOf, InBox, size}
+use Rattle.orders.specs.Orders.{Order, Lawful, InSpaceOf}
 use Rattle.orders.specs.Spaces.{Within}
 use Rattle.tree.specs.Tree.{count_at}
 use Rattle.tree.proofs.CopyBase.{by_eq}

@@ -1,16 +1,15 @@
 -- What the runs of a search from address 0 come to, in a tree that may be empty.
-use Rattle.std.proofs.Common.{◌≡◌, ℕ, zero, suc, ◌+◌, ◌-◌, ◌<◌, ◌≤◌, Bool, true, false, cond, ◌&&◌, leb, List, [], ◌∷◌, ◌++◌, map, length, Some, Decides, filter, sym, refl, ap, ◌∙◌, subst, arith, le-leb}
+use Rattle.std.proofs.Common.{◌≡◌, ℕ, zero, suc, ◌<◌, ◌≤◌, Bool, true, false, cond, ◌&&◌, List, [], ◌∷◌, ◌++◌, map, length, Decides, filter, sym, refl, ap, ◌∙◌, subst, arith, le-leb}
 use mathlib.Core.List.{map-append}
 use lib.ListN.{length-map}
-use Rattle.layout.specs.declared.entry.Entry.{Entry}
 use Rattle.orders.specs.Orders.{Order, Meets}
 use Rattle.tree.specs.Tree.{Node, Held, Contents, Ordered, events}
 use Rattle.tree.specs.Tree.Held.{none, held}
 use Rattle.tree.specs.CopyLaws.{SoundOf, events_of}
-use Rattle.tree.specs.SearchSteps.{Region, regions, Step, search_steps, found_of, from, met, passes}
+use Rattle.tree.specs.SearchSteps.{Region, regions, Step, search_steps, found_of, from, met}
 use Rattle.tree.specs.SearchSteps.Step.{reads, finds}
-use Rattle.tree.specs.SearchRuns.{Ending, Outcome, outcome, run, whole, read_count, stopped_at}
-use Rattle.tree.specs.SearchRuns.Ending.{done, more, cut}
+use Rattle.tree.specs.SearchRuns.{Outcome, run, read_count, stopped_at}
+use Rattle.tree.specs.SearchRuns.Ending.{done, cut}
 use Rattle.tree.proofs.SearchFinds.{finds_law}
 use Rattle.tree.proofs.SearchFirst.{meets_decides}
 use Rattle.tree.proofs.SearchReads.{count_law}
@@ -22,7 +21,6 @@ use Rattle.searches.specs.Inside.{inside}
 use Rattle.searches.specs.Finds.{find_of}
 use Rattle.searches.specs.Searching.{finds_of}
 use Rattle.searches.proofs.Insides.{inside_decides}
-use Rattle.index.specs.Model.{Answer}
 use Rattle.index.specs.Model.Answer.{found}
 use Rattle.index.specs.Keeping.{top}
 use Rattle.index.specs.Searched.{search_of, answer_of}

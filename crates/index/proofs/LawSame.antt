@@ -1,12 +1,11 @@
 -- The same search with another charge and room: what it is answered, and that it is answered so only.
-use Rattle.std.proofs.Common.{◌≡◌, ℕ, ◌-◌, List, [], sym, refl, ap, ◌∙◌, subst, arith}
+use Rattle.std.proofs.Common.{◌≡◌, ℕ, ◌-◌, List, sym, refl, ap, ◌∙◌, subst, arith}
 use Rattle.pages.specs.Image.{Image, granted}
 use Rattle.orders.specs.Orders.{Order, InSpaceOf}
 use Rattle.faults.specs.Accesses.{contents}
 use Rattle.tree.proofs.CopyUnique.{same_held}
 use Rattle.index.specs.Model.{Answer, State, Known, state, limit}
 use Rattle.index.specs.Model.Call.{searches}
-use Rattle.index.specs.Model.Known.{shut, knows}
 use Rattle.index.specs.Keeping.{Content, Filed, Kept, Holds, Agrees, top}
 use Rattle.index.specs.Keeping.Content.{blank, filed}
 use Rattle.index.specs.Changes.{tree_state, known_of}

@@ -1,25 +1,23 @@
 -- The law over whole runs.
-use Rattle.std.proofs.Common.{◌≡◌, ℕ, ◌+◌, ◌-◌, ◌<◌, ◌≤◌, List, [], ◌∷◌, ◌++◌, length, sym, refl, ap, ◌∙◌, subst, arith}
-use Rattle.pages.specs.Image.{Image, Blank}
+use Rattle.std.proofs.Common.{◌≡◌, ℕ, ◌+◌, ◌-◌, ◌<◌, ◌≤◌, List, length, sym, refl, ap, ◌∙◌, subst, arith}
 use Rattle.orders.specs.Orders.{Order, Lawful, InSpaceOf}
-use Rattle.layout.specs.Content.{LeafKeys}
 use Rattle.tree.specs.CopyLaws.{events_of}
 use Rattle.tree.specs.SearchRuns.{Ending}
-use Rattle.tree.specs.SearchRuns.Ending.{done, cut}
+use Rattle.tree.specs.SearchRuns.Ending.{done}
 use Rattle.tree.proofs.CopyKept.{sorted_law}
 use Rattle.faults.specs.Accesses.{contents}
 use Rattle.searches.specs.declared.find.Find.{Find}
 use Rattle.searches.specs.Searching.{finds_of}
-use Rattle.index.specs.Model.{Answer, State, Known, state, limit}
+use Rattle.index.specs.Model.{Answer, State, limit}
 use Rattle.index.specs.Model.Call.{searches}
 use Rattle.index.specs.Model.Answer.{refused, found}
 use Rattle.index.specs.Keeping.{Content, Filed, Kept, Holds, top}
-use Rattle.index.specs.Keeping.Content.{blank, filed}
+use Rattle.index.specs.Keeping.Content.{filed}
 use Rattle.index.specs.Changes.{tree_state, known_of}
 use Rattle.index.specs.Searched.{search_of, answer_of}
 use Rattle.index.specs.Steps.{Step, Does}
 use Rattle.index.specs.Steps.Does.{not_open, outside, searched}
-use Rattle.index.specs.Histories.{History, Led, Holding, held_in, held as holds_after}
+use Rattle.index.specs.Histories.{History, held_in, held as holds_after}
 use Rattle.index.specs.Law.{Due, Answered, CutAndResumed, EndedDone, Law, RunLaw, SearchLaw, in_leaves}
 use Rattle.index.proofs.LawsCounts.{opened_tree}
 use Rattle.index.proofs.LawsHistories.{history_law}

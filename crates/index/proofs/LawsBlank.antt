@@ -1,6 +1,5 @@
 -- Factory-blank memory has no header.
-use Rattle.std.proofs.Common.{◌≡◌, ℕ, ◌<◌, ◌≤◌, ◌⊎◌, List, [], ◌∷◌, length, get_or, replicate, sym, refl, ap, ◌∙◌, inl, inr, arith}
-use Rattle.pages.specs.Image.{Image, Blank, at, Has}
+use Rattle.std.proofs.Common.{◌≡◌, ℕ, ◌≤◌, ◌⊎◌, List, [], ◌∷◌, length, get_or, replicate, sym, refl, ap, ◌∙◌, inl, inr, arith}
 use Rattle.index.specs.LawsSteps.{BlankLaw}
 
 no_header : (ps : List (List ℕ)) (bs : List ℕ) → (1 ≤ length ps → (get_or ps 0 [] ≡ replicate 128 0) ⊎ (get_or ps 0 [] ≡ replicate 128 255)) → get_or ps 0 [] ≡ 85 ∷ bs → ⊥

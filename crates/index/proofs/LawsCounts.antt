@@ -1,5 +1,5 @@
 -- What a step does to the counts of points.
-use Rattle.std.proofs.Common.{◌≡◌, ℕ, suc, ◌+◌, ◌-◌, ◌<◌, ◌≤◌, Bool, true, false, cond, eqb, ◌⊎◌, List, [], ◌∷◌, Ok, Err, Result, sym, refl, ap, ◌∙◌, subst, inl, inr, arith}
+use Rattle.std.proofs.Common.{◌≡◌, ℕ, suc, ◌+◌, ◌-◌, ◌≤◌, List, Ok, Err, Result, sym, refl, ap, ◌∙◌, subst, arith}
 use Rattle.pages.specs.Image.{Image}
 use Rattle.orders.specs.Orders.{Order, Lawful, InSpaceOf}
 use Rattle.tree.specs.Tree.{count_at}
@@ -13,18 +13,18 @@ use Rattle.faults.specs.declared.fault.Fault.{Fault}
 use Rattle.paths.specs.TallyRules.{Tallies}
 use Rattle.paths.specs.WithdrawRules.{Withdraws}
 use Rattle.paths.specs.LodgeKept.{Lodges}
-use Rattle.index.specs.Model.{Call, Answer, State, Known, state, limit, refusal, told_count}
+use Rattle.index.specs.Model.{Call, Answer, State, Known, state, limit, told_count}
 use Rattle.index.specs.Model.Call.{formats, opens, shuts, lodges, withdraws, tallies, searches, grants}
 use Rattle.index.specs.Model.Answer.{accepted, refused, counted}
-use Rattle.index.specs.Model.Known.{shut, knows}
+use Rattle.index.specs.Model.Known.{knows}
 use Rattle.index.specs.Keeping.{Content, Filed, Kept, Holds, top}
-use Rattle.index.specs.Keeping.Content.{blank, filed}
-use Rattle.index.specs.Changes.{Changes, tree_state, file_of, known_of}
+use Rattle.index.specs.Keeping.Content.{filed}
+use Rattle.index.specs.Changes.{Changes, tree_state, known_of}
 use Rattle.index.specs.Changes.Changes.{copy_refused, header_unpaid, changed}
-use Rattle.index.specs.Steps.{Step, Does, Goes, Names}
+use Rattle.index.specs.Steps.{Does}
 use Rattle.index.specs.Steps.Does.{formatted, format_absent, format_uncharged, open_few, open_absent, open_uncharged, open_no_header, open_other, open_short, open_tree, not_open, outside, tallied, searched, lodged, withdrawn, shut_down, given}
 use Rattle.index.specs.Histories.{held_in}
-use Rattle.index.specs.LawsSteps.{Counts, CountsLaw, OthersStay, AllStay, AnsweredLaw}
+use Rattle.index.specs.LawsSteps.{Counts, CountsLaw, AllStay, AnsweredLaw}
 use Rattle.index.proofs.Changing.{tree_kept}
 
 -- a file that an open index knows, with its free pages

@@ -1,31 +1,29 @@
 -- A format and a first lodge, as a history.
-use Rattle.std.proofs.Common.{◌≡◌, ℕ, suc, ◌+◌, ◌-◌, ◌*◌, ◌^◌, ◌<◌, ◌≤◌, min, List, [], ◌∷◌, ◌++◌, length, replicate, Ok, sym, refl, ap, ◌∙◌, subst, arith, length-set}
+use Rattle.std.proofs.Common.{◌≡◌, ℕ, suc, ◌-◌, ◌^◌, ◌<◌, ◌≤◌, min, List, length, replicate, Ok, sym, refl, ap, ◌∙◌, subst, arith, length-set}
 use lib.Pow.{pow-lt}
 use Rattle.pages.specs.Image.{Image, at, written}
 use Rattle.layout.specs.Heads.{header_bytes}
-use Rattle.layout.specs.Content.{page}
-use Rattle.layout.specs.Bytes.{page_bytes, content_of}
 use Rattle.layout.proofs.Trips.{round_trip}
 use Rattle.orders.specs.Orders.{Order, Lawful, InSpaceOf, size}
-use Rattle.tree.specs.Tree.{Node, Held, Contents, Absent}
+use Rattle.tree.specs.Tree.{Node, Held, Contents}
 use Rattle.tree.specs.Tree.Node.{leaf, inner}
 use Rattle.tree.specs.Tree.Held.{none, held}
 use Rattle.tree.specs.CopyMoves.{State as TreeState, lodge_step, front}
 use Rattle.tree.specs.CopyWrites.{Write}
-use Rattle.tree.specs.CopyLaws.{Kept as TreeKept, SoundOf, Copies, upward, usable, root_of}
+use Rattle.tree.specs.CopyLaws.{Kept as TreeKept, SoundOf, upward, usable, root_of}
 use Rattle.tree.proofs.CopyShares.{upward_length}
 use Rattle.tree.proofs.CopyKept.{lodge_law, empty_law}
 use Rattle.faults.specs.Accesses.{contents}
 use Rattle.paths.specs.declared.copied.Copied.{Copied}
 use Rattle.paths.specs.PathsWrites.{Wrote, Accepts, stored, after_reads}
-use Rattle.paths.specs.LodgeKept.{Lodges, LodgeDone}
+use Rattle.paths.specs.LodgeKept.{Lodges}
 use Rattle.paths.proofs.PathsMemory.{kept_after}
 use Rattle.paths.proofs.PathsCopying.{stored_length, stays}
-use Rattle.index.specs.Model.{State, Known, state, limit}
+use Rattle.index.specs.Model.{State, state, limit}
 use Rattle.index.specs.Model.Known.{shut, knows}
 use Rattle.index.specs.Model.Call.{formats, lodges}
 use Rattle.index.specs.Model.Answer.{accepted}
-use Rattle.index.specs.Keeping.{Content, Filed, Holds, header_for, top}
+use Rattle.index.specs.Keeping.{Filed, header_for, top}
 use Rattle.index.specs.Keeping.Content.{filed}
 use Rattle.index.specs.Changes.{tree_state, file_of, known_of}
 use Rattle.index.specs.Changes.Changes.{changed}

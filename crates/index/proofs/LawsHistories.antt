@@ -1,5 +1,5 @@
 -- The law of histories: by induction over the history, with what the memory holds carried along.
-use Rattle.std.proofs.Common.{◌≡◌, ℕ, suc, ◌+◌, ◌-◌, ◌<◌, ◌≤◌, Bool, true, false, cond, List, [], ◌∷◌, sym, refl, ap, ◌∙◌, subst, arith}
+use Rattle.std.proofs.Common.{◌≡◌, ℕ, suc, ◌+◌, ◌-◌, ◌≤◌, Bool, true, false, List, [], ◌∷◌, sym, refl, ◌∙◌, subst, arith}
 use Rattle.std.proofs.lemmas.Bool.{cond_both}
 use Rattle.pages.specs.Image.{Image, Blank}
 use Rattle.orders.specs.Orders.{Order, Lawful, InSpaceOf}
@@ -8,7 +8,7 @@ use Rattle.index.specs.Model.{Call, Answer, State}
 use Rattle.index.specs.Model.Call.{formats, opens, shuts, lodges, withdraws, tallies, searches, grants}
 use Rattle.index.specs.Model.Answer.{accepted, refused, counted, found}
 use Rattle.index.specs.Keeping.{Content}
-use Rattle.index.specs.Keeping.Content.{blank, filed}
+use Rattle.index.specs.Keeping.Content.{blank}
 use Rattle.index.specs.Histories.{History, Led, Holding, same, one_if_same, lodgings, withdrawals, lodgings_with, withdrawals_with, held_in, HistoryLaw, TallyLaw, WithdrawalLaw}
 use Rattle.index.specs.Histories.Led.{begun, goes_on}
 use Rattle.index.specs.LawsSteps.{Counts}

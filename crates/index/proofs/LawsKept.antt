@@ -1,5 +1,5 @@
 -- What holds in every kept state, and after a refusal.
-use Rattle.std.proofs.Common.{◌≡◌, ℕ, suc, ◌+◌, ◌-◌, ◌<◌, ◌≤◌, List, [], ◌∷◌, Result, sym, refl, ap, ◌∙◌, subst, arith}
+use Rattle.std.proofs.Common.{◌≡◌, ℕ, List, Result, sym, refl, ap, ◌∙◌, subst, arith}
 use Rattle.pages.specs.Image.{Image, at}
 use Rattle.orders.specs.Orders.{Order}
 use Rattle.tree.specs.Tree.{Node, Held, Contents, counts}
@@ -9,9 +9,8 @@ use Rattle.tree.specs.CopyLaws.{SoundOf, events_of}
 use Rattle.tree.proofs.CopyKept.{number_law, range_law, sorted_law}
 use Rattle.faults.specs.Accesses.{contents}
 use Rattle.faults.specs.declared.fault.Fault.{Fault}
-use Rattle.index.specs.Model.{Call, Answer, State, Known, state, limit, told_count}
-use Rattle.index.specs.Model.Call.{lodges, withdraws, tallies, opens}
-use Rattle.index.specs.Model.Answer.{accepted, refused, counted, found}
+use Rattle.index.specs.Model.{Call, Answer, State, Known, state, limit}
+use Rattle.index.specs.Model.Answer.{accepted, refused, found}
 use Rattle.index.specs.Model.Known.{shut, knows}
 use Rattle.index.specs.Keeping.{Content, Filed, Kept, Holds, top}
 use Rattle.index.specs.Keeping.Content.{blank, filed}
@@ -19,10 +18,10 @@ use Rattle.searches.specs.declared.find.Find.{Find}
 use Rattle.tree.specs.SearchRuns.{Ending}
 use Rattle.index.specs.Changes.{Changes, tree_state}
 use Rattle.index.specs.Changes.Changes.{copy_refused, header_unpaid, changed}
-use Rattle.index.specs.Steps.{Step, Does, Names}
+use Rattle.index.specs.Steps.{Does, Names}
 use Rattle.index.specs.Steps.Names.{lodging, withdrawing, tallying, from_low, to_high}
 use Rattle.index.specs.Steps.Does.{formatted, format_absent, format_uncharged, open_few, open_absent, open_uncharged, open_no_header, open_other, open_short, open_tree, not_open, outside, tallied, searched, lodged, withdrawn, shut_down, given}
-use Rattle.index.specs.LawsSteps.{Accounts, Accounted, AccountsLaw, StepAccountsLaw, KnowsAfter, RefusedLaw}
+use Rattle.index.specs.LawsSteps.{Accounts, AccountsLaw, StepAccountsLaw, KnowsAfter, RefusedLaw}
 use Rattle.index.proofs.Changing.{tree_kept}
 
 sum_is : (m : Contents) (l h total most : ℕ) (t : Held Node) → SoundOf m l h total most t → counts (events_of t) ≡ total

@@ -1,22 +1,21 @@
 -- The index on one event is kept.
-use Rattle.std.proofs.Common.{◌≡◌, ℕ, suc, ◌+◌, ◌-◌, ◌*◌, ◌^◌, ◌<◌, ◌≤◌, min, List, [], ◌∷◌, length, get_or, sym, refl, ap, ◌∙◌, subst, arith, length-set, get_or-set_other, get_or-set_same}
+use Rattle.std.proofs.Common.{◌≡◌, ℕ, suc, ◌+◌, ◌-◌, ◌^◌, ◌<◌, ◌≤◌, List, [], ◌∷◌, length, refl, ap, ◌∙◌, arith, length-set, get_or-set_other, get_or-set_same}
 use lib.Pow.{pow-lt}
-use Rattle.pages.specs.Image.{Image, at, written}
+use Rattle.pages.specs.Image.{Image, written}
 use Rattle.layout.specs.Bytes.{page_bytes, content_of}
 use Rattle.layout.specs.Content.{page}
 use Rattle.layout.proofs.Trips.{round_trip}
 use Rattle.orders.specs.Orders.{Order, Lawful, InSpaceOf, size}
-use Rattle.tree.specs.Tree.{Sound}
 use Rattle.tree.specs.Tree.Node.{leaf}
 use Rattle.tree.specs.Tree.Held.{held}
 use Rattle.tree.specs.CopyMoves.{State as TreeState}
 use Rattle.tree.specs.CopyLaws.{Kept as TreeKept, upward, usable}
-use Rattle.tree.specs.CopyWrites.{times, mark}
+use Rattle.tree.specs.CopyWrites.{times}
 use Rattle.tree.proofs.CopyBase.{mark_same}
 use Rattle.faults.specs.Accesses.{contents}
 use Rattle.index.specs.Model.{limit}
 use Rattle.index.specs.Keeping.{top}
-use Rattle.index.specs.LawsWitness.{one_event, one_leaf, WitnessLaw}
+use Rattle.index.specs.LawsWitness.{one_event, WitnessLaw}
 use Rattle.index.proofs.Changing.{now_holds}
 use Rattle.index.proofs.Heading.{few_bits}
 

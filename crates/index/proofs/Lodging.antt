@@ -1,21 +1,19 @@
 -- Lodge is a step.
-use Rattle.std.proofs.Common.{◌≡◌, ℕ, suc, ◌+◌, ◌-◌, ◌<◌, ◌≤◌, min, Bool, ◌⊎◌, List, [], ◌∷◌, ◌++◌, length, take, drop, Ok, Err, Result, sym, refl, ap, ◌∙◌, subst, ap₂, inl, inr, append-nil, add-one, arith, take-append-drop, get_or-set_other}
+use Rattle.std.proofs.Common.{◌≡◌, ℕ, suc, ◌+◌, ◌<◌, ◌≤◌, Bool, List, [], ◌∷◌, ◌++◌, length, drop, Ok, Err, Result, sym, refl, ap, ◌∙◌, subst, inl, inr, add-one, arith, take-append-drop}
 use Rattle.std.specs.List.{AllByRecursion as All}
-use Rattle.pages.specs.Image.{Image, at, written}
-use Rattle.orders.specs.Orders.{Order, Lawful, InSpaceOf, size}
-use Rattle.tree.specs.Tree.{Absent}
-use Rattle.tree.specs.CopyWrites.{Write, written as pages_written}
-use Rattle.tree.specs.CopyMoves.{State as TreeState, lodge_step}
+use Rattle.pages.specs.Image.{Image, at}
+use Rattle.orders.specs.Orders.{Order, Lawful}
+use Rattle.tree.specs.CopyWrites.{Write}
+use Rattle.tree.specs.CopyMoves.{lodge_step}
 use Rattle.tree.specs.CopyLaws.{Kept as TreeKept, Copies, lodge_takes}
 use Rattle.tree.specs.CopyUpdate.{lodge_by}
 use Rattle.tree.proofs.CopyKept.{lodge_law, greatest_law, range_law}
 use Rattle.faults.specs.Accesses.{contents}
-use Rattle.faults.specs.declared.fault.Access.{Access}
 use Rattle.faults.specs.declared.fault.Fault.{Fault}
 use Rattle.faults.specs.declared.fault.Fault.TheVariants.{Shut, Outside, Work, Absent as isAbsent, Unread, NoHeader, OtherOrder, Unsound, NoEvent, CountFull, HeightFull, Room, Unwritten}
 use Rattle.paths.specs.declared.copied.Copied.{Copied}
-use Rattle.paths.specs.PathsWrites.{Wrote, Accepts, stored, encoded, after_reads, WritesRunOut}
-use Rattle.paths.specs.LodgeKept.{Lodges, LodgeDone, LodgeIs}
+use Rattle.paths.specs.PathsWrites.{Wrote, after_reads}
+use Rattle.paths.specs.LodgeKept.{Lodges, LodgeIs}
 use Rattle.paths.specs.LodgeRules.{Unlodged}
 use Rattle.paths.specs.LodgeRules.Unlodged.{denied, cut}
 use Rattle.paths.specs.LodgeTree.{LodgedBy}
@@ -24,12 +22,12 @@ use Rattle.paths.specs.PathsCopies.{LeavesAlone}
 use Rattle.paths.proofs.PathsCopying.{wrote_alone, read_alone, misread_alone, append_none, stored_length}
 use Rattle.paths.proofs.LodgeKeeping.{lodge_keeps, lodge_keeps_old, lodge_frees}
 use Rattle.std.proofs.lemmas.Bool.{cases_lt}
-use Rattle.index.specs.Model.{Call, Answer, State, Known, state, limit, refusal, told}
+use Rattle.index.specs.Model.{Answer, State, Known, state, limit, refusal, told}
 use Rattle.index.specs.Model.Known.{knows}
 use Rattle.index.specs.Model.Call.{lodges}
-use Rattle.index.specs.Keeping.{Content, Filed, Kept, Holds, top}
+use Rattle.index.specs.Keeping.{Content, Filed, Holds, top}
 use Rattle.index.specs.Keeping.Content.{filed}
-use Rattle.index.specs.Changes.{Changes, tree_state, known_of}
+use Rattle.index.specs.Changes.{Changes, tree_state}
 use Rattle.index.specs.Steps.{Step, Does}
 use Rattle.index.specs.Steps.Does.{lodged}
 use Rattle.index.specs.View.{known_if}

@@ -1,29 +1,27 @@
 -- What the code of an opening comes to.
-use Rattle.std.proofs.Common.{◌≡◌, ℕ, zero, suc, ◌+◌, ◌-◌, ◌<◌, ◌≤◌, min, max, Bool, true, false, cond, not, eqb, List, [], ◌∷◌, length, get_or, Ok, Err, Result, sym, refl, ap, ◌∙◌, subst, inl, inr, zero-add, add-one, arith}
+use Rattle.std.proofs.Common.{◌≡◌, ℕ, zero, suc, ◌+◌, ◌-◌, ◌≤◌, Bool, true, false, cond, not, eqb, List, [], ◌∷◌, length, get_or, Ok, Err, Result, sym, refl, ap, ◌∙◌, subst, inl, inr, zero-add, add-one, arith}
 use Rattle.std.proofs.lemmas.Bool.{ne_eqb}
 use Rattle.records.specs.Chain.{unmarked}
-use Rattle.pages.specs.Image.{Image, at, Reads, spent, granted}
+use Rattle.pages.specs.Image.{Image, at, Reads, spent}
 use Rattle.pages.specs.declared.fault.StoreFault.{StoreFault}
 use Rattle.pages.specs.declared.fault.StoreFault.TheVariants.{Absent as isAbsent, Uncharged as isUncharged}
 use Rattle.layout.specs.declared.header.Header.{Header}
 use Rattle.orders.specs.Orders.{Order}
 use Rattle.tree.specs.CopyLaws.{usable, upward, unused}
 use Rattle.tree.specs.CopyWrites.{times}
-use Rattle.tree.specs.Scan.{opened, absent as is_new}
-use Rattle.faults.specs.Accesses.{contents}
-use Rattle.faults.specs.declared.fault.Access.{Access}
+use Rattle.tree.specs.Scan.{absent as is_new}
 use Rattle.faults.specs.declared.fault.Fault.{Fault}
 use Rattle.faults.specs.declared.fault.Fault.TheVariants.{Shut, Outside, Work, Absent, Unread, NoHeader, OtherOrder, Unsound, NoEvent, CountFull, HeightFull, Room, Unwritten}
 use Rattle.faults.specs.Refusals.{unread as unread_at}
 use Rattle.walks.specs.Scans.{Scans, Marked, last_page}
-use Rattle.index.specs.Model.{State, Known, state, limit, refusal}
+use Rattle.index.specs.Model.{Known, state, limit, refusal}
 use Rattle.index.specs.Model.Answer.{accepted}
 use Rattle.index.specs.Model.Known.{shut, knows}
-use Rattle.index.specs.Head.{Got, Says, NoHead}
+use Rattle.index.specs.Head.{NoHead}
 use Rattle.index.specs.Head.NoHead.{refused, none, other}
-use Rattle.index.specs.Keeping.{Ours, top}
-use Rattle.index.specs.Opening.{Opening, ReadsOurs, scan_of}
-use Rattle.index.specs.Opening.Opening.{few_records, absent, uncharged, no_header, other_order, unread, breaks, opens_on}
+use Rattle.index.specs.Keeping.{top}
+use Rattle.index.specs.Opening.{Opening, ReadsOurs}
+use Rattle.index.specs.Opening.Opening.{absent, uncharged, no_header, other_order, unread, breaks, opens_on}
 
 module _ (o : Order) (m : Image) (k : Known) (work : ℕ) where
   at_page_one : (f : StoreFault) (m' : Image) → 64 ≤ work → Reads m 1 [] (Err f) m' [] → Opening o (state m k) work (refusal (unread_at (record { page = 1; level = 0; fault = f }))) (state m' shut)

@@ -1,16 +1,15 @@
 -- An opening is a step: where a tree is on file it opens, or the charge is short.
-use Rattle.std.proofs.Common.{◌≡◌, ℕ, zero, suc, ◌+◌, ◌-◌, ◌<◌, ◌≤◌, min, Bool, cond, eqb, ◌⊎◌, List, [], ◌∷◌, length, get_or, sym, refl, ap, ◌∙◌, subst, inl, inr, zero-add, arith}
+use Rattle.std.proofs.Common.{◌≡◌, ℕ, ◌+◌, ◌-◌, ◌<◌, ◌≤◌, ◌⊎◌, List, [], ◌∷◌, length, get_or, sym, refl, ap, ◌∙◌, subst, inl, inr, zero-add, arith}
 use Rattle.std.proofs.lemmas.Bool.{cases_lt}
-use Rattle.pages.specs.Image.{Image, at, spent, granted}
+use Rattle.pages.specs.Image.{Image, granted}
 use Rattle.layout.specs.declared.header.Header.{Header}
-use Rattle.layout.specs.Heads.{header_bytes, Proper}
 use Rattle.orders.specs.Orders.{Order, Lawful}
 use Rattle.tree.specs.declared.visit.Rule.{Rule}
 use Rattle.tree.specs.Tree.{Node, Held, Contents, counts}
 use Rattle.tree.specs.Tree.Held.{none, held}
 use Rattle.tree.specs.CopyLaws.{SoundOf, root_of, pages_of, usable, unused}
-use Rattle.tree.specs.CopyWrites.{times, weigh, mark}
-use Rattle.tree.specs.Scan.{Outcome, opened}
+use Rattle.tree.specs.CopyWrites.{times}
+use Rattle.tree.specs.Scan.{opened}
 use Rattle.tree.specs.Scan.{accepted as sound, refused as unsound, uncharged as short}
 use Rattle.tree.specs.ScanRules.{SoundHeld, marked, pages_held, events_held}
 use Rattle.tree.proofs.CopyKept.{opened_law}
@@ -21,7 +20,7 @@ use Rattle.index.specs.Model.{Call, Answer, State, Known, state, limit}
 use Rattle.index.specs.Model.Answer.{accepted, refused}
 use Rattle.index.specs.Model.Known.{shut, knows}
 use Rattle.index.specs.Model.Call.{opens}
-use Rattle.index.specs.Keeping.{Content, Filed, Kept, Holds, Agrees, header_for, top, Ours}
+use Rattle.index.specs.Keeping.{Content, Filed, Kept, Holds, Agrees, header_for, top}
 use Rattle.index.specs.Keeping.Content.{blank, filed}
 use Rattle.index.specs.Opening.{Opening, ReadsOurs, scan_of}
 use Rattle.index.specs.Opening.Opening.{few_records, absent, uncharged, no_header, other_order, unread, breaks, opens_on}

@@ -1,6 +1,6 @@
 -- Format, shut and grant are steps.
-use Rattle.std.proofs.Common.{◌≡◌, ℕ, zero, suc, ◌+◌, ◌-◌, ◌<◌, ◌≤◌, min, Bool, false, cond, not, List, [], ◌∷◌, length, get_or, set, replicate, Ok, Err, sym, refl, ap, ◌∙◌, subst, inl, inr, zero-add, add-one, arith, length-set, get_or-set_same}
-use Rattle.pages.specs.Image.{Image, Writes, Lacks, written, granted, at}
+use Rattle.std.proofs.Common.{◌≡◌, ℕ, zero, suc, ◌+◌, ◌≤◌, min, Bool, false, List, [], ◌∷◌, length, get_or, set, replicate, Ok, Err, sym, refl, ap, ◌∙◌, subst, inl, inr, zero-add, add-one, arith, length-set, get_or-set_same}
+use Rattle.pages.specs.Image.{Image, Writes, written, granted}
 use Rattle.pages.specs.declared.fault.StoreFault.{StoreFault}
 use Rattle.pages.specs.declared.fault.StoreFault.TheVariants.{Absent, Uncharged}
 use Rattle.layout.specs.Heads.{header_bytes}
@@ -10,13 +10,13 @@ use Rattle.tree.specs.CopyWrites.{times}
 use Rattle.records.specs.Chain.{unmarked}
 use Rattle.faults.specs.declared.fault.Access.{Access}
 use Rattle.faults.specs.Refusals.{unwritten}
-use Rattle.index.specs.Model.{State, Known, state, refusal, limit}
+use Rattle.index.specs.Model.{Known, state, refusal, limit}
 use Rattle.index.specs.Model.Answer.{accepted}
 use Rattle.index.specs.Model.Known.{shut, knows}
 use Rattle.index.specs.Model.Call.{formats, shuts, grants}
-use Rattle.index.specs.Keeping.{Content, Filed, Kept, Holds, header_for}
-use Rattle.index.specs.Keeping.Content.{blank, filed}
-use Rattle.index.specs.Steps.{Step, Goes, empty_file}
+use Rattle.index.specs.Keeping.{Holds, header_for}
+use Rattle.index.specs.Keeping.Content.{filed}
+use Rattle.index.specs.Steps.{Step, empty_file}
 use Rattle.index.specs.Steps.Does.{formatted, format_absent, format_uncharged, shut_down, given}
 use Rattle.index.proofs.Keeps.{recharged, forgotten}
 

@@ -1,11 +1,11 @@
 -- A search is a step.
-use Rattle.std.proofs.Common.{◌≡◌, ℕ, ◌+◌, ◌-◌, ◌<◌, ◌≤◌, min, Bool, true, false, List, [], ◌∷◌, ◌++◌, length, take, drop, Ok, Err, Result, sym, refl, ap, ◌∙◌, subst, arith}
+use Rattle.std.proofs.Common.{◌≡◌, ℕ, ◌-◌, ◌≤◌, min, Bool, List, [], ◌∷◌, length, take, Ok, Err, sym, refl, ap, subst, arith}
 use Rattle.std.specs.List.{AllByRecursion as All}
-use Rattle.pages.specs.Image.{Image, granted}
+use Rattle.pages.specs.Image.{Image}
 use Rattle.orders.specs.Orders.{Order, InSpaceOf}
 use Rattle.faults.specs.Accesses.{contents}
 use Rattle.faults.specs.declared.fault.Fault.{Fault}
-use Rattle.tree.specs.Tree.{Node, Held, Level, number, pages}
+use Rattle.tree.specs.Tree.{Node, Held, Level, pages}
 use Rattle.tree.specs.Tree.Held.{none, held}
 use Rattle.tree.specs.CopyLaws.{SoundOf, root_of}
 use Rattle.tree.specs.SearchRuns.{Outcome, outcome}
@@ -14,17 +14,17 @@ use Rattle.searches.specs.declared.find.Find.{Find}
 use Rattle.searches.specs.declared.find.Found.{Found}
 use Rattle.searches.specs.Finds.{ending_of}
 use Rattle.searches.specs.Walking.{StandsAs}
-use Rattle.searches.specs.Searching.{nothing, Tells, Searches}
-use Rattle.index.specs.Model.{Call, Answer, State, Known, state, limit, refusal}
+use Rattle.searches.specs.Searching.{Tells, Searches}
+use Rattle.index.specs.Model.{Known, state, limit, refusal}
 use Rattle.index.specs.Model.Call.{searches}
 use Rattle.index.specs.Model.Answer.{found}
-use Rattle.index.specs.Model.Known.{shut, knows}
-use Rattle.index.specs.Keeping.{Content, Filed, Kept, Holds, top}
+use Rattle.index.specs.Model.Known.{knows}
+use Rattle.index.specs.Keeping.{top}
 use Rattle.index.specs.Keeping.Content.{filed}
 use Rattle.index.specs.View.{known_if}
-use Rattle.index.specs.Located.{Located, IsOpen}
+use Rattle.index.specs.Located.{Located}
 use Rattle.index.specs.Searched.{search_of, answer_of}
-use Rattle.index.specs.Steps.{Step, Goes, Does}
+use Rattle.index.specs.Steps.{Step}
 use Rattle.index.specs.Steps.Names.{from_low, to_high}
 use Rattle.index.specs.Steps.Does.{searched}
 use Rattle.index.proofs.Keeps.{same_pages}

@@ -1,6 +1,6 @@
 -- What the index knows after the end of a change.
-use Rattle.std.proofs.Common.{◌≡◌, ℕ, ◌≤◌, Bool, true, false, List, [], ◌∷◌, length, Ok, Err, Result, sym, refl, ap, ◌∙◌, subst, length-set}
-use Rattle.pages.specs.Image.{Image, Writes, written}
+use Rattle.std.proofs.Common.{◌≡◌, ℕ, Bool, true, false, List, length, Ok, Err, Result, sym, ap, ◌∙◌, length-set}
+use Rattle.pages.specs.Image.{Image, Writes}
 use Rattle.pages.specs.declared.fault.StoreFault.{StoreFault}
 use Rattle.pages.specs.declared.fault.StoreFault.TheVariants.{Absent, Uncharged}
 use Rattle.layout.specs.Heads.{header_bytes}
@@ -10,7 +10,7 @@ use Rattle.faults.specs.declared.fault.Fault.{Fault}
 use Rattle.paths.specs.declared.copied.Copied.{Copied}
 use Rattle.index.specs.declared.index.Index.{Index}
 use Rattle.index.specs.Model.{Known}
-use Rattle.index.specs.Model.Known.{shut, knows}
+use Rattle.index.specs.Model.Known.{knows}
 use Rattle.index.specs.Located.{IsOpen}
 use Rattle.index.specs.Sealing.{Seals, header_with}
 use Rattle.index.specs.Settled.{Settles}

@@ -1,12 +1,11 @@
 -- The first questions, and tally, are steps.
-use Rattle.std.proofs.Common.{◌≡◌, ℕ, ◌-◌, ◌<◌, ◌≤◌, min, Bool, true, false, ◌⊎◌, List, [], ◌∷◌, length, Ok, Err, Result, sym, refl, ap, ◌∙◌, subst, inl, inr, arith}
+use Rattle.std.proofs.Common.{◌≡◌, ℕ, Bool, true, false, List, length, Ok, Err, Result, refl, ap, subst, inl, inr, arith}
 use Rattle.pages.specs.Image.{Image}
 use Rattle.orders.specs.Orders.{Order, InSpaceOf}
 use Rattle.faults.specs.declared.fault.Fault.{Fault}
-use Rattle.faults.specs.declared.fault.Fault.TheVariants.{Shut, Outside}
+use Rattle.faults.specs.declared.fault.Fault.TheVariants.{Outside}
 use Rattle.paths.specs.PathsReading.{Misread, KeptAt}
 use Rattle.paths.specs.PathsReading.Misread.{refused as read_refused, broken}
-use Rattle.paths.specs.PathsWrites.{after_reads}
 use Rattle.paths.specs.TallyRules.{Tallied, Tallies, TallyIs}
 use Rattle.index.specs.Model.{Call, Answer, State, Known, state, limit, refusal, told_count}
 use Rattle.index.specs.Model.Known.{shut, knows}
@@ -15,7 +14,7 @@ use Rattle.index.specs.Keeping.{Content, Filed, Kept, Holds, top}
 use Rattle.index.specs.Keeping.Content.{blank, filed}
 use Rattle.index.specs.View.{known_if}
 use Rattle.index.specs.Located.{Located, IsOpen}
-use Rattle.index.specs.Changes.{tree_state, known_of}
+use Rattle.index.specs.Changes.{tree_state}
 use Rattle.index.specs.Steps.{Step, Goes, Does, Names}
 use Rattle.index.specs.Steps.Does.{not_open, outside, tallied}
 use Rattle.index.proofs.Keeps.{same_pages}

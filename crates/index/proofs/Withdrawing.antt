@@ -1,31 +1,28 @@
 -- Withdraw is a step.
-use Rattle.std.proofs.Common.{◌≡◌, ℕ, ◌+◌, ◌-◌, ◌<◌, ◌≤◌, min, Bool, true, false, cond, eqb, ◌⊎◌, List, [], ◌∷◌, ◌++◌, length, drop, Ok, Err, Result, sym, refl, ap, ◌∙◌, subst, ap₂, inl, inr, append-nil, arith}
-use Rattle.std.specs.List.{AllByRecursion as All}
+use Rattle.std.proofs.Common.{◌≡◌, ℕ, ◌-◌, ◌≤◌, Bool, true, false, cond, eqb, List, [], Ok, Err, Result, sym, refl, ap, ◌∙◌, subst, arith}
 use Rattle.pages.specs.Image.{Image, at}
-use Rattle.orders.specs.Orders.{Order, InSpaceOf}
-use Rattle.tree.specs.Tree.{Node, Held, Absent}
+use Rattle.orders.specs.Orders.{Order}
+use Rattle.tree.specs.Tree.{Node, Held}
 use Rattle.tree.specs.Tree.Held.{none, held}
-use Rattle.tree.specs.CopyMoves.{State as TreeState, withdraw_step}
-use Rattle.tree.specs.CopyLaws.{Kept as TreeKept, Within, events_of, path_of, height_withdrawn, page_drops}
+use Rattle.tree.specs.CopyMoves.{withdraw_step}
+use Rattle.tree.specs.CopyLaws.{Kept as TreeKept, height_withdrawn, page_drops}
 use Rattle.tree.proofs.CopyKept.{withdraw_law, greatest_law, range_law}
 use Rattle.tree.proofs.CopyFinding.{height_law}
 use Rattle.faults.specs.Accesses.{contents}
 use Rattle.faults.specs.declared.fault.Fault.{Fault}
 use Rattle.paths.specs.declared.copied.Copied.{Copied}
-use Rattle.paths.specs.PathsReading.{back}
 use Rattle.paths.specs.PathsCopies.{LeavesAlone}
 use Rattle.paths.specs.WithdrawRules.{Withdraws, WithdrawIs}
 use Rattle.paths.proofs.PathsMemory.{kept_after}
 use Rattle.paths.proofs.PathsCopying.{append_none}
 use Rattle.paths.proofs.WithdrawKept.{withdraw_keeps, withdraw_keeps_old, withdraw_frees}
-use Rattle.index.specs.Model.{Call, Answer, State, Known, state, limit, refusal, told}
-use Rattle.index.specs.Model.Answer.{accepted}
+use Rattle.index.specs.Model.{Answer, State, Known, state, limit, refusal, told}
 use Rattle.index.specs.Model.Known.{knows}
 use Rattle.index.specs.Model.Call.{withdraws}
-use Rattle.index.specs.Keeping.{Content, Filed, Kept, Holds, top}
+use Rattle.index.specs.Keeping.{Content, Filed, Holds, top}
 use Rattle.index.specs.Keeping.Content.{filed}
-use Rattle.index.specs.Changes.{Changes, tree_state, known_of}
-use Rattle.index.specs.Steps.{Step, Goes, Does}
+use Rattle.index.specs.Changes.{Changes, tree_state}
+use Rattle.index.specs.Steps.{Step, Does}
 use Rattle.index.specs.Steps.Does.{withdrawn}
 use Rattle.index.proofs.Changing.{knows_file, tree_kept}
 use Rattle.index.proofs.Changed.{MadeCopy}

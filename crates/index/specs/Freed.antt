@@ -1,5 +1,5 @@
 -- The free list after a path copy: the pages that it took are gone from the front, and the old path's pages stand there.
-use Rattle.std.specs.Prelude.{◌≡◌, ℕ, ◌≤◌, List, ◌++◌, drop}
+use Rattle.std.specs.Prelude.{◌≡◌, ℕ, ◌≤◌, List, ◌++◌}
 use Rattle.std.specs.List.{AllByRecursion as All}
 use Rattle.tree.specs.Tree.{Apart}
 use Rattle.paths.specs.PathsReading.{back}

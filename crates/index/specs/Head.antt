@@ -1,5 +1,5 @@
 -- What reading the header answers: the questions 8 to 11 of an opening, by the bytes of page 1.
-use Rattle.std.specs.Prelude.{◌≡◌, ℕ, ◌<◌, ◌≤◌, [], length, Ok, Err, Result, ◌≢◌}
+use Rattle.std.specs.Prelude.{◌≡◌, ◌<◌, ◌≤◌, [], length, Ok, Err, Result, ◌≢◌}
 use Rattle.pages.specs.Image.{Image, at, spent}
 use Rattle.layout.specs.declared.header.Header.{Header}
 use Rattle.layout.specs.Heads.{header_bytes, Proper}

@@ -1,5 +1,5 @@
 -- Histories: any calls, one after another, each on what the last one left; and what a point holds after them.
-use Rattle.std.specs.Prelude.{◌≡◌, ℕ, suc, ◌+◌, ◌-◌, ◌≤◌, Bool, true, false, cond, List, [], ◌∷◌, ◌==◌}
+use Rattle.std.specs.Prelude.{◌≡◌, ℕ, ◌+◌, ◌-◌, ◌≤◌, Bool, true, false, cond, List, [], ◌∷◌, ◌==◌}
 use Rattle.pages.specs.Image.{Image, Blank}
 use Rattle.orders.specs.Orders.{Order, Lawful, InSpaceOf}
 use Rattle.tree.specs.Tree.{count_at}
@@ -8,7 +8,7 @@ use Rattle.index.specs.Model.{Call, Answer, State, state}
 use Rattle.index.specs.Model.Call.{formats, opens, shuts, lodges, withdraws, tallies, searches, grants}
 use Rattle.index.specs.Model.Answer.{accepted, refused, counted, found}
 use Rattle.index.specs.Model.Known.{shut}
-use Rattle.index.specs.Keeping.{Content, Filed, Kept}
+use Rattle.index.specs.Keeping.{Content, Kept}
 use Rattle.index.specs.Keeping.Content.{blank, filed}
 use Rattle.index.specs.Steps.{Step}
 

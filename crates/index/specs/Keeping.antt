@@ -1,6 +1,6 @@
 -- What ties an index to its memory. Every call keeps it, whether it is accepted or refused.
-use Rattle.std.specs.Prelude.{◌≡◌, ℕ, ◌+◌, ◌-◌, ◌≤◌, List, [], ◌∷◌, length, ◌≢◌}
-use Rattle.pages.specs.Image.{Image, at}
+use Rattle.std.specs.Prelude.{◌≡◌, ℕ, ◌+◌, ◌-◌, ◌≤◌, length, ◌≢◌}
+use Rattle.pages.specs.Image.{at}
 use Rattle.layout.specs.declared.header.Header.{Header}
 use Rattle.layout.specs.Heads.{header_bytes, Proper}
 use Rattle.orders.specs.Orders.{Order, size}

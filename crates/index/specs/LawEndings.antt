@@ -1,5 +1,5 @@
 -- How a search from any address ends, and what it has then found and read.
-use Rattle.std.specs.Prelude.{◌≡◌, ℕ, ◌+◌, ◌<◌, ◌≤◌, List, [], ◌∷◌, ◌++◌, map, length, filter}
+use Rattle.std.specs.Prelude.{◌≡◌, ℕ, ◌+◌, ◌<◌, ◌≤◌, List, ◌∷◌, ◌++◌, map, length, filter}
 use Rattle.std.specs.List.{ContainsAt as Has}
 use Rattle.orders.specs.Orders.{Order, InBox}
 use Rattle.tree.specs.CopyLaws.{events_of}

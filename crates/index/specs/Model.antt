@@ -1,5 +1,5 @@
 -- The index from outside: its calls, its answers, and what it is at a moment.
-use Rattle.std.specs.Prelude.{◌≡◌, ℕ, ◌-◌, min, List, [], ◌∷◌, length, take, Ok, Err, Result}
+use Rattle.std.specs.Prelude.{ℕ, min, List, length, take, Ok, Err, Result}
 use Rattle.pages.specs.Image.{Image}
 use Rattle.faults.specs.declared.fault.Fault.{Fault}
 use Rattle.faults.specs.Refusals.{number_of, values_of}

@@ -11,7 +11,7 @@ use Rattle.tree.specs.declared.visit.Rule.{Rule}
 use Rattle.tree.specs.Scan.{accepted as sound, refused as unsound, uncharged as short}
 use Rattle.faults.specs.Accesses.{contents}
 use Rattle.faults.specs.Refusals.{letter}
-use Rattle.index.specs.Model.{Answer, State, Known, state, limit}
+use Rattle.index.specs.Model.{Answer, State, state, limit}
 use Rattle.index.specs.Model.Answer.{accepted, refused}
 use Rattle.index.specs.Model.Known.{shut, knows}
 use Rattle.index.specs.Keeping.{Ours, top}

@@ -12,12 +12,12 @@ use Rattle.tree.specs.CopyMoves.{lodge_step, withdraw_step}
 use Rattle.tree.specs.Tree.Held.{none}
 use Rattle.tree.specs.CopyLaws.{usable, unused, pages_of, root_of}
 use Rattle.tree.specs.Scan.{uncharged}
-use Rattle.index.specs.Model.{Call, Answer, State, Known, state, limit, told_count}
+use Rattle.index.specs.Model.{Call, Answer, State, state, limit, told_count}
 use Rattle.index.specs.Model.Call.{formats, opens, shuts, lodges, withdraws, tallies, searches, grants}
-use Rattle.index.specs.Model.Answer.{accepted, refused, counted}
+use Rattle.index.specs.Model.Answer.{accepted, refused}
 use Rattle.index.specs.Model.Known.{shut, knows}
 use Rattle.index.specs.Keeping.{Content, Filed, Kept, Ours, header_for}
-use Rattle.index.specs.Keeping.Content.{blank, filed}
+use Rattle.index.specs.Keeping.Content.{filed}
 use Rattle.index.specs.Opening.{scan_of}
 use Rattle.index.specs.Changes.{Changes, tree_state, known_of}
 use Rattle.index.specs.Searched.{search_of, answer_of}

@@ -1,4 +1,6 @@
 // The event index: events as points with counts, in a copy-on-write tree of pages.
+#![tactic(auto)]
+
 pub mod calls;
 mod freed;
 mod head;

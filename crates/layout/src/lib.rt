@@ -1,4 +1,6 @@
 // The bytes of header and tree pages: reading, writing, entry lists, and what makes one page well formed.
+#![tactic(auto)]
+
 mod bytes;
 pub mod change;
 pub mod entry;

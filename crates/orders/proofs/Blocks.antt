@@ -1,12 +1,12 @@
 -- A block of addresses against a box.
-use Rattle.std.proofs.Common.{◌≡◌, ℕ, zero, suc, ◌+◌, ◌-◌, ◌*◌, ◌/◌, ◌%◌, ◌^◌, ◌<◌, ◌≤◌, ◌≢◌, ◌⊎◌, List, [], ◌∷◌, length, get_or, set, Some, None, Option, sym, refl, ap, ◌∙◌, subst, ap₂, inl, inr, add-zero, add-suc, mod-lt, pow-suc, zero-mul, div-one, arith, length-set, pow_pos, pow_mono, shr-shr}
+use Rattle.std.proofs.Common.{◌≡◌, ℕ, zero, suc, ◌+◌, ◌-◌, ◌*◌, ◌/◌, ◌^◌, ◌<◌, ◌≤◌, ◌⊎◌, List, get_or, set, Some, None, Option, sym, ap, ◌∙◌, inl, inr, mod-lt, zero-mul, div-one, arith, pow_pos, shr-shr}
 use native.Mathlib.Nat.{sub_self, pow-zero, div-eq_of_lt, sub-zero}
 use lib.Pow.{shr_mono}
 use Rattle.std.proofs.lemmas.Nat.{shr_split}
 use Rattle.std.proofs.lemmas.Bool.{cases_eq, cases_lt}
 use Rattle.orders.specs.Spaces.{InSpace, Within}
 use Rattle.orders.specs.Interleave.{point_at, address_of, Schedule, Touches, Hit, Least, lacking}
-use Rattle.orders.specs.Orders.{Order, FirstIs}
+use Rattle.orders.specs.Orders.{FirstIs}
 use Rattle.orders.specs.Laws.{prefix, room, lower_half, upper_half, pow_more}
 
 -- the number without its last m + 1 bits is half of that without its last m bits

@@ -1,11 +1,10 @@
 -- The row order's address is the number with the coordinates as digits.
-use Rattle.std.proofs.Common.{◌≡◌, ℕ, zero, suc, ◌+◌, ◌-◌, ◌*◌, ◌/◌, ◌%◌, ◌^◌, ◌<◌, ◌≤◌, List, length, get_or, set, sym, refl, ap, ◌∙◌, ap₂, add-zero, add-suc, mod-eq_of_lt, mul_assoc, suc-mul, add-mul, pow-suc, zero-mul, mul-one, div-one, arith, length-set, get_or-set_other, get_or-set_same, set-set}
+use Rattle.std.proofs.Common.{◌≡◌, ℕ, zero, suc, ◌+◌, ◌*◌, ◌/◌, ◌%◌, ◌^◌, ◌<◌, ◌≤◌, List, length, get_or, set, refl, ap, ◌∙◌, ap₂, add-zero, add-suc, mod-eq_of_lt, mul_assoc, suc-mul, add-mul, pow-suc, zero-mul, mul-one, div-one, arith, length-set, get_or-set_other, get_or-set_same, set-set}
 use native.Mathlib.Nat.{mod-one, pow-zero}
 use lib.Seq.{set-get_or}
 use lib.Pow.{mod-pow-add}
 use Rattle.std.proofs.lemmas.Nat.{div-mul-add}
 use Rattle.orders.specs.Interleave.{address_of, halved}
-use Rattle.orders.specs.Spaces.{InSpace}
 use Rattle.orders.specs.Rules.{row_turn, row_digits, RowIs}
 use Rattle.orders.specs.Laws.{half_shr}
 

@@ -1,11 +1,11 @@
 -- The Z order fills each hyper-quadrant before it enters the next.
-use Rattle.std.proofs.Common.{◌≡◌, ℕ, ◌+◌, ◌-◌, ◌*◌, ◌/◌, ◌^◌, ◌<◌, ◌≤◌, List, length, get_or, sym, ap, ◌∙◌, inl, inr, mul-add, arith, ext_get_or, pow_pos, pow-add}
+use Rattle.std.proofs.Common.{◌≡◌, ℕ, ◌+◌, ◌-◌, ◌*◌, ◌/◌, ◌^◌, ◌<◌, ◌≤◌, length, get_or, sym, ap, ◌∙◌, inl, inr, mul-add, arith, ext_get_or, pow_pos, pow-add}
 use native.Mathlib.Nat.{pow-zero}
 use lib.Pow.{shr_mono}
 use Rattle.std.proofs.lemmas.Bool.{cases_lt}
 use Rattle.std.proofs.lemmas.Nat.{div_below}
 use Rattle.orders.specs.Spaces.{Range}
-use Rattle.orders.specs.Interleave.{Schedule, point_at, address_of}
+use Rattle.orders.specs.Interleave.{point_at, address_of}
 use Rattle.orders.specs.Rules.{z_turn, z_used, z_point, ZQuadrants, SameQuadrant}
 use Rattle.orders.specs.Laws.{prefix, address_point, point_lt, four}
 use Rattle.orders.specs.Schedules.{z_schedule, z_rounds, used_out}

@@ -1,13 +1,12 @@
 -- The two rules keep their schedules, and what their addresses are in the subject's words.
-use Rattle.std.specs.Prelude.{◌≡◌, ℕ, zero, suc, ◌+◌, ◌-◌, ◌*◌, ◌/◌, ◌%◌, ◌^◌, ◌<◌, ◌≤◌, min, ◌⊎◌, List, ◌≢◌, nat_lt, refl}
+use Rattle.std.specs.Prelude.{◌≡◌, ℕ, suc, ◌+◌, ◌-◌, ◌*◌, ◌/◌, ◌%◌, ◌<◌, ◌≤◌, ◌≢◌, nat_lt}
 use Rattle.std.proofs.Common.{sym, ap, ◌∙◌, inl, inr, mod-lt, div-add-mod', mul-le-mul_right, suc-mul, mul_comm, add-mul, arith}
-use Rattle.std.proofs.Math.Pow.{shr_mono}
 use Rattle.std.proofs.lemmas.Bool.{cases_lt, cases_order, lt-ltb, le-ltb, cond-true, cond-false}
 use Rattle.std.proofs.lemmas.Nat.{div_below, div-mul-add}
-use Rattle.orders.specs.Spaces.{Range, InSpace}
-use Rattle.orders.specs.Interleave.{Schedule, point_at, address_of, lacking}
-use Rattle.orders.specs.Rules.{z_turn, z_used, row_turn, row_used, z_point, ZPlaces, ZQuadrants, SameQuadrant}
-use Rattle.orders.specs.Laws.{place, fits_in, prefix, address_point}
+use Rattle.orders.specs.Spaces.{Range}
+use Rattle.orders.specs.Interleave.{Schedule, lacking}
+use Rattle.orders.specs.Rules.{z_turn, z_used, row_turn, row_used, ZPlaces}
+use Rattle.orders.specs.Laws.{place, fits_in}
 
 -- a multiple of p and p more
 row_step : (i j p : ℕ) → i < j → i * p + p ≤ j * p

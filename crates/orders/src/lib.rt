@@ -1,4 +1,6 @@
 // Points, query boxes, spaces, and the orders that put the points of a space on one line of addresses.
+#![tactic(auto)]
+
 pub mod order;
 pub mod point;
 pub mod refusal;

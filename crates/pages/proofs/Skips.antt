@@ -1,11 +1,11 @@
 -- Lemmas on a layer that skips pages.
-use Rattle.std.proofs.Common.{◌≡◌, ℕ, ◌-◌, ◌<◌, ◌≤◌, Bool, true, false, cond, leb, ◌≢◌, ◌⊎◌, List, [], ◌∷◌, map, length, get_or, set, Ok, Err, Result, sym, refl, ap, ◌∙◌, subst, inl, inr, arith}
+use Rattle.std.proofs.Common.{◌≡◌, ℕ, ◌-◌, ◌<◌, ◌≤◌, Bool, true, false, cond, leb, ◌≢◌, ◌⊎◌, List, [], map, length, get_or, set, Ok, Err, Result, sym, refl, ap, ◌∙◌, subst, inl, inr, arith}
 use Rattle.std.proofs.lemmas.Bool.{leb-true, cases_eq, cases_lt}
 use Rattle.std.proofs.lemmas.List.{length-map, length-take, length-set, get_or-map, get_or-take, get_or-set_same, get_or-set_other, ext_get_or}
 use Rattle.pages.specs.declared.fault.StoreFault.{StoreFault}
 use Rattle.pages.specs.declared.fault.StoreFault.TheVariants.{Absent, Uncharged}
 use Rattle.pages.specs.declared.table.SkipTable.{SkipTable}
-use Rattle.pages.specs.Image.{Image, Has, Lacks, Reads, Writes, at, spent, written}
+use Rattle.pages.specs.Image.{Image, Has, Lacks, Reads, Writes, at, written}
 use Rattle.pages.specs.Table.{places_in, seen, counted, Finds, WritesBelow}
 
 abbrev pictured : ℕ → List (List ℕ) → Image

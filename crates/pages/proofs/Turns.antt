@@ -1,9 +1,9 @@
 -- Lemmas on a store whose bytes are turned.
-use Rattle.std.proofs.Common.{◌≡◌, ℕ, ◌-◌, ◌<◌, List, [], map, length, get_or, set, Ok, Err, Result, sym, refl, ap, ◌∙◌, inl, inr, ⊎_elim}
+use Rattle.std.proofs.Common.{◌≡◌, ℕ, ◌-◌, List, map, set, Ok, Err, Result, sym, refl, ap, ◌∙◌, inl, inr, ⊎_elim}
 use Rattle.std.proofs.lemmas.List.{map-set, length-map}
 use Rattle.pages.specs.declared.fault.StoreFault.{StoreFault}
 use Rattle.pages.specs.declared.fault.StoreFault.TheVariants.{Absent, Uncharged}
-use Rattle.pages.specs.Image.{Image, Has, Lacks, Reads, Writes, at, granted}
+use Rattle.pages.specs.Image.{Image, Has, Lacks, Reads, Writes}
 use Rattle.pages.specs.Turn.{turn, turned}
 use Rattle.pages.specs.Sizes.{map_getD}
 

@@ -6,7 +6,6 @@ use Rattle.std.proofs.lemmas.Bool.{leb-true}
 use Rattle.pages.specs.Image.{Image, Sized, at}
 use Rattle.pages.specs.Cut.{cut, number, held}
 use Rattle.pages.specs.Turn.{turn, turned}
-use Rattle.pages.specs.Skip.{placed_within}
 use Rattle.pages.specs.Table.{places_in, seen}
 use Rattle.pages.specs.declared.table.SkipTable.{SkipTable}
 

@@ -2,7 +2,7 @@
 use Rattle.std.specs.Prelude.{◌≡◌, ℕ, ◌-◌, ◌<◌, ◌≤◌, cond, ◌⊎◌, List, take, Some, None, Ok, Err, Option, Result, nat_le, slice_index}
 use Rattle.pages.specs.declared.table.SkipTable.{SkipTable}
 use Rattle.pages.specs.declared.making.MakingFault.{MakingFault}
-use Rattle.pages.specs.declared.making.MakingFault.TheVariants.{Slots, BadPages}
+use Rattle.pages.specs.declared.making.MakingFault.TheVariants.{BadPages}
 use Rattle.pages.specs.declared.fault.StoreFault.{StoreFault}
 use Rattle.pages.specs.declared.fault.StoreFault.TheVariants.{Absent, Uncharged}
 use Rattle.pages.specs.Image.{Image, written}

@@ -1,5 +1,5 @@
 -- The turned layer: byte b is kept below as 255 - b.
-use Rattle.std.specs.Prelude.{ℕ, ◌-◌, List, map}
+use Rattle.std.specs.Prelude.{ℕ, ◌-◌, map}
 use Rattle.pages.specs.Image.{Image}
 
 abbrev pub turn : ℕ → ℕ

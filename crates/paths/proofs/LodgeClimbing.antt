@@ -1,11 +1,11 @@
 -- Each exit of lodge at a page.
-use Rattle.std.proofs.Common.{◌≡◌, ℕ, zero, suc, ◌+◌, ◌-◌, ◌<◌, ◌≤◌, Bool, true, false, cond, leb, ◌⊎◌, List, [], ◌∷◌, ◌++◌, length, get_or, drop, Ok, Err, Result, sym, refl, ap, ◌∙◌, subst, inl, inr, arith, length-append}
+use Rattle.std.proofs.Common.{◌≡◌, ℕ, zero, suc, ◌+◌, ◌<◌, ◌≤◌, Bool, true, false, cond, leb, List, [], ◌++◌, length, drop, Ok, Err, Result, sym, refl, ap, ◌∙◌, subst, inl, inr, arith, length-append}
 use Rattle.pages.specs.Image.{Image, spent}
 use Rattle.layout.specs.declared.entry.Entry.{Entry}
 use Rattle.tree.specs.CopyWrites.{Write}
 use Rattle.tree.specs.CopyMoves.{Split, Made}
 use Rattle.tree.specs.CopyPages.{pick, swap, fit_inner}
-use Rattle.tree.specs.CopyMemory.{place_at, lodge_at, path_at, leaf_at, page_splits_at, path_splits_at}
+use Rattle.tree.specs.CopyMemory.{place_at, lodge_at, leaf_at, page_splits_at, path_splits_at}
 use Rattle.tree.specs.CopyDescent.{if_splits}
 use Rattle.tree.proofs.CopyMemory.{place_writes, place_part, place_rest}
 use Rattle.tree.proofs.CopyDescent.{descent_law, writes_law}
@@ -16,12 +16,11 @@ use Rattle.paths.specs.declared.place.Placed.{Placed}
 use Rattle.paths.specs.declared.plan.Plan.{Plan}
 use Rattle.paths.specs.PathsWrites.{after_reads, Wrote, Unwrites}
 use Rattle.paths.specs.PathsPages.{Read, UnreadPage}
-use Rattle.paths.specs.PathsReading.{Misread}
-use Rattle.paths.specs.LodgePlaces.{pages_in, Gives, PlacedBy, Places}
+use Rattle.paths.specs.LodgePlaces.{pages_in, PlacedBy, Places}
 use Rattle.paths.specs.LodgeRules.{Allowed, Denied, Unlodged, plan_below, Leafed, Lodged, count_under, height_under, takes_under}
 use Rattle.paths.specs.LodgeRules.Denied.{full, high, few}
 use Rattle.paths.specs.LodgeRules.Unlodged.{denied, cut}
-use Rattle.paths.proofs.PathsWriting.{after_none, after_more, wrote_more, unwrites_more, unwrites_less}
+use Rattle.paths.proofs.PathsWriting.{after_more, wrote_more, unwrites_more, unwrites_less}
 use Rattle.paths.proofs.PathsReading.{Goes, at_child, misread_here, misread_below}
 
 -- the questions are about numbers only

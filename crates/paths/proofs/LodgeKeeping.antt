@@ -1,13 +1,12 @@
 -- Lodge where a state is kept.
-use Rattle.std.proofs.Common.{◌≡◌, ℕ, zero, suc, ◌+◌, ◌-◌, ◌<◌, ◌≤◌, ◌⊎◌, List, [], ◌∷◌, ◌++◌, length, drop, Ok, Err, Result, sym, refl, ap, ◌∙◌, subst, inl, inr, arith}
+use Rattle.std.proofs.Common.{◌≡◌, ℕ, suc, ◌<◌, ◌≤◌, List, ◌∷◌, ◌++◌, length, drop, Ok, Err, Result, sym, refl, ap, ◌∙◌, subst, inl, inr, arith}
 use Rattle.std.specs.List.{AllByRecursion as All}
 use Rattle.std.proofs.ByRecursion.{All-take, All-weaker}
 use Rattle.pages.specs.Image.{Image, Has}
 use Rattle.tree.specs.CopyWrites as tree
 use Rattle.tree.specs.CopyMoves.{State, lodge_step}
-use Rattle.tree.specs.CopyLaws.{Kept, Copies, root_of, path_of, lodge_takes}
-use Rattle.tree.specs.CopyMemory.{path_at}
-use Rattle.tree.specs.CopyUpdate.{Update, lodge_by, needed, handle_of, update_of}
+use Rattle.tree.specs.CopyLaws.{Kept, Copies, root_of, path_of}
+use Rattle.tree.specs.CopyUpdate.{Update, lodge_by, needed}
 use Rattle.tree.proofs.CopyKept.{lodge_law, range_law}
 use Rattle.tree.proofs.CopyUpdate.{update_law}
 use Rattle.faults.specs.declared.fault.Fault.{Fault}
@@ -15,12 +14,12 @@ use Rattle.faults.specs.declared.fault.Fault.TheVariants.{Shut, Outside, Work, A
 use Rattle.faults.specs.Accesses.{contents}
 use Rattle.paths.specs.declared.copied.Copied.{Copied}
 use Rattle.paths.specs.PathsWrites.{after_reads, Wrote, Unwrites}
-use Rattle.paths.specs.PathsReading.{KeptAt, back}
+use Rattle.paths.specs.PathsReading.{KeptAt}
 use Rattle.paths.specs.LodgeRules.{Allowed, Denied, Unlodged, count_under}
 use Rattle.paths.specs.LodgeRules.Denied.{full, high, few}
 use Rattle.paths.specs.LodgeRules.Unlodged.{denied, cut}
-use Rattle.paths.specs.LodgeTree.{CopiedTo, LodgedBy}
-use Rattle.paths.specs.LodgeKept.{LodgeAllowed, LodgeDone, Lodges, LodgeIs, lodge_needs, events_at, LodgeNextLaw, LodgeRefusedLaw, LodgeFreeLaw}
+use Rattle.paths.specs.LodgeTree.{LodgedBy}
+use Rattle.paths.specs.LodgeKept.{LodgeAllowed, Lodges, LodgeIs, lodge_needs, events_at, LodgeNextLaw, LodgeRefusedLaw, LodgeFreeLaw}
 use Rattle.paths.proofs.PathsWriting.{accepts_charge, after_none}
 use Rattle.paths.proofs.PathsMemory.{kept_after, kept_read}
 use Rattle.paths.proofs.PathsKept.{misread_kept, at_kept, leaf_count}

@@ -1,5 +1,5 @@
 -- One page or two written: each exit of `place`.
-use Rattle.std.proofs.Common.{◌≡◌, ℕ, zero, suc, ◌+◌, ◌-◌, ◌<◌, ◌≤◌, List, [], ◌∷◌, ◌++◌, length, get_or, drop, Some, None, Ok, Err, Option, Result, sym, refl, ap, ◌∙◌, subst, arith}
+use Rattle.std.proofs.Common.{◌≡◌, ℕ, ◌+◌, ◌≤◌, List, [], ◌∷◌, length, get_or, drop, Some, None, Ok, Err, Option, Result, sym, refl, ap, ◌∙◌, subst, arith}
 use Rattle.std.proofs.lemmas.List.{drop_more}
 use Rattle.pages.specs.Image.{Image}
 use Rattle.layout.specs.declared.entry.Entry.{Entry}
@@ -12,7 +12,7 @@ use Rattle.faults.specs.declared.fault.Fault.{Fault}
 use Rattle.paths.specs.declared.place.Placed.{Placed}
 use Rattle.paths.specs.PathsWrites.{Wrote, Unwrites}
 use Rattle.paths.specs.PathsPages.{write_of}
-use Rattle.paths.specs.LodgePlaces.{halves_of, Gives, PlacedBy, Places}
+use Rattle.paths.specs.LodgePlaces.{halves_of, PlacedBy, Places}
 use Rattle.paths.proofs.PathsWriting.{wrote_more, unwrites_more, unwrites_less}
 
 two_free : (free : List ℕ) (used p q : ℕ) → used + 2 ≤ length free → p ≡ get_or free used 0 → q ≡ get_or free (used + 1) 0 → drop used free ≡ p ∷ (q ∷ drop (used + 1 + 1) free)

@@ -1,8 +1,7 @@
 -- A new root, the first leaf, and the whole tree.
-use Rattle.std.proofs.Common.{◌≡◌, ℕ, zero, suc, ◌+◌, ◌-◌, ◌<◌, ◌≤◌, ◌⊎◌, List, [], ◌∷◌, ◌++◌, length, get_or, drop, Ok, Err, Result, sym, refl, ap, ◌∙◌, subst, inl, inr, arith, length-append}
+use Rattle.std.proofs.Common.{◌≡◌, ℕ, zero, suc, ◌+◌, ◌<◌, ◌≤◌, List, [], ◌∷◌, ◌++◌, length, get_or, drop, Ok, Err, Result, sym, refl, ap, ◌∙◌, subst, inl, inr, arith, length-append}
 use Rattle.std.proofs.lemmas.List.{drop_more}
 use Rattle.pages.specs.Image.{Image}
-use Rattle.layout.specs.declared.entry.Entry.{Entry}
 use Rattle.layout.specs.declared.change.ChildPages.{ChildPages}
 use Rattle.layout.specs.declared.change.ChildPages.TheVariants.{Two}
 use Rattle.tree.specs.Tree.{Contents}
@@ -24,10 +23,10 @@ use Rattle.paths.specs.PathsWrites.{after_reads, Wrote, Unwrites}
 use Rattle.paths.specs.PathsPages.{write_of}
 use Rattle.paths.specs.PathsReading.{back}
 use Rattle.paths.specs.LodgePlaces.{pages_in}
-use Rattle.paths.specs.LodgeRules.{Allowed, Denied, Unlodged, Lodged, Traced, count_under, height_under, takes_under}
+use Rattle.paths.specs.LodgeRules.{Allowed, Denied, Lodged, Traced, count_under, height_under, takes_under}
 use Rattle.paths.specs.LodgeRules.Denied.{full, high, few}
 use Rattle.paths.specs.LodgeRules.Unlodged.{denied, cut}
-use Rattle.paths.specs.LodgeTree.{Rooted, Roots, CopiedTo, LodgedBy}
+use Rattle.paths.specs.LodgeTree.{Rooted, Roots, LodgedBy}
 use Rattle.paths.proofs.PathsWriting.{after_none, wrote_more, unwrites_more, unwrites_less}
 
 at_front : (h used p v k w : ℕ) (free path : List ℕ) (pages : ChildPages) (m m' : Image) (r : Result Copied Fault) → used + 1 ≤ length free → p ≡ get_or free used 0 → pages ≡ Two v k w

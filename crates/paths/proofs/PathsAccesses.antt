@@ -1,23 +1,21 @@
 -- Each exit of the accesses to one page.
-use Rattle.std.proofs.Common.{◌≡◌, ℕ, suc, ◌<◌, ◌≤◌, true, false, cond, List, [], ◌∷◌, length, get_or, Some, None, Ok, Err, Option, Result, sym, refl, ap, ◌∙◌, subst, arith}
+use Rattle.std.proofs.Common.{◌≡◌, ℕ, ◌<◌, true, false, cond, List, [], ◌∷◌, length, get_or, Some, None, Ok, Err, Option, sym, refl, ap, ◌∙◌, subst, arith}
 use Rattle.std.specs.List.{slice_get}
 use Rattle.std.proofs.lemmas.Option.{slice_get-get_or}
 use Rattle.pages.specs.declared.fault.StoreFault.{StoreFault}
 use Rattle.pages.specs.declared.fault.StoreFault.TheVariants.{Absent, Uncharged}
-use Rattle.pages.specs.Image.{Image, Has, Reads, Writes, at, spent}
+use Rattle.pages.specs.Image.{Image, Reads, Writes}
 use Rattle.layout.specs.declared.entry.Entry.{Entry}
-use Rattle.layout.specs.Content.{Own, page}
-use Rattle.layout.specs.Bytes.{content_of, entries_of, page_bytes}
+use Rattle.layout.specs.Content.{Own}
+use Rattle.layout.specs.Bytes.{content_of, entries_of}
 use Rattle.layout.proofs.Entries.{length_entries}
 use Rattle.tree.specs.declared.visit.Rule.TheVariants.{B, C}
-use Rattle.tree.specs.CopyWrites.{Write}
-use Rattle.faults.specs.declared.fault.Access.{Access}
 use Rattle.faults.specs.declared.fault.ReadRefused.{ReadRefused}
 use Rattle.faults.specs.declared.fault.WriteRefused.{WriteRefused}
 use Rattle.faults.specs.declared.fault.Fault.TheVariants.{Unsound}
 use Rattle.faults.specs.Refusals.{unread, unwritten}
-use Rattle.faults.specs.Accesses.{Fetches, Stores, contents}
-use Rattle.paths.specs.PathsWrites.{Refuses, Wrote, Cut, Unwrites}
+use Rattle.faults.specs.Accesses.{Fetches, Stores}
+use Rattle.paths.specs.PathsWrites.{Refuses, Unwrites}
 use Rattle.paths.specs.PathsPages.{Read, UnreadPage, write_of}
 use Rattle.paths.specs.PathsPages.UnreadPage.{refused, broken}
 

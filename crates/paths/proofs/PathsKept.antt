@@ -1,8 +1,8 @@
 -- Where a state is kept: only the charge stops the reading of a path, and a leaf's count is the tree's.
-use Rattle.std.proofs.Common.{◌≡◌, ℕ, zero, suc, ◌+◌, ◌-◌, ◌<◌, ◌≤◌, ◌⊎◌, List, [], ◌∷◌, length, get_or, Some, None, Option, sym, refl, ap, ◌∙◌, subst, inl, inr, arith}
+use Rattle.std.proofs.Common.{◌≡◌, ℕ, suc, ◌+◌, ◌-◌, ◌<◌, ◌≤◌, List, [], ◌∷◌, length, get_or, Option, sym, refl, ap, ◌∙◌, subst, inl, inr, arith}
 use Rattle.pages.specs.declared.fault.StoreFault.{StoreFault}
 use Rattle.pages.specs.declared.fault.StoreFault.TheVariants.{Absent, Uncharged}
-use Rattle.pages.specs.Image.{Image, Has, Lacks}
+use Rattle.pages.specs.Image.{Image, Has}
 use Rattle.layout.specs.declared.entry.Entry.{Entry}
 use Rattle.layout.specs.Content.{LeafKeys}
 use Rattle.layout.specs.Edits.{found}
@@ -18,7 +18,7 @@ use Rattle.tree.proofs.CopyDescent.{path_law, tally_law}
 use Rattle.tree.proofs.CopyUpdate.{update_law}
 use Rattle.faults.specs.declared.fault.Access.{Access}
 use Rattle.faults.specs.declared.fault.Fault.{Fault}
-use Rattle.faults.specs.declared.fault.Fault.TheVariants.{Unread, Absent as no_page, Unsound}
+use Rattle.faults.specs.declared.fault.Fault.TheVariants.{Unread, Absent as no_page}
 use Rattle.faults.specs.Refusals.{unread, by_fault}
 use Rattle.faults.specs.Accesses.{contents}
 use Rattle.paths.specs.PathsWrites.{Refuses, after_reads}

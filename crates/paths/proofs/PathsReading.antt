@@ -1,16 +1,14 @@
 -- A path read page by page, and where that stops.
-use Rattle.std.proofs.Common.{◌≡◌, ℕ, zero, suc, ◌+◌, ◌-◌, ◌<◌, ◌≤◌, List, [], ◌∷◌, length, get_or, sym, refl, ap, ◌∙◌, subst, arith}
-use Rattle.pages.specs.Image.{Image, Has, spent}
+use Rattle.std.proofs.Common.{◌≡◌, ℕ, zero, suc, ◌-◌, ◌<◌, ◌≤◌, List, length, get_or, sym, refl, ap, ◌∙◌, subst, arith}
+use Rattle.pages.specs.Image.{Image, spent}
 use Rattle.layout.specs.declared.entry.Entry.{Entry}
-use Rattle.layout.specs.Content.{Own}
 use Rattle.tree.specs.Tree.{Contents}
 use Rattle.tree.specs.CopyPages.{pick}
 use Rattle.tree.specs.CopyMemory.{path_at}
-use Rattle.faults.specs.declared.fault.Access.{Access}
 use Rattle.faults.specs.declared.fault.Fault.{Fault}
 use Rattle.faults.specs.Accesses.{contents}
-use Rattle.paths.specs.PathsWrites.{Refuses, after_reads}
-use Rattle.paths.specs.PathsPages.{Read, UnreadPage, Breaks}
+use Rattle.paths.specs.PathsWrites.{Refuses}
+use Rattle.paths.specs.PathsPages.{Read, UnreadPage}
 use Rattle.paths.specs.PathsPages.UnreadPage.{refused as at_store, broken as at_page}
 use Rattle.paths.specs.PathsReading.{Stopped, Misread}
 use Rattle.paths.specs.PathsReading.Misread.{refused, broken}

@@ -1,8 +1,7 @@
 -- Tally where a state is kept.
-use Rattle.std.proofs.Common.{◌≡◌, ℕ, ◌≤◌, Ok, Err, Result, sym, refl, ap, ◌∙◌, subst}
+use Rattle.std.proofs.Common.{ℕ, Ok, Err, Result, sym, ◌∙◌, subst}
 use Rattle.pages.specs.Image.{Image}
 use Rattle.tree.specs.CopyMoves.{State}
-use Rattle.tree.specs.CopyLaws.{root_of}
 use Rattle.faults.specs.declared.fault.Fault.{Fault}
 use Rattle.paths.specs.PathsReading.{KeptAt}
 use Rattle.paths.specs.TallyRules.{Tallied, Tallies, TallyIs}

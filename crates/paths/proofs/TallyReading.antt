@@ -1,5 +1,5 @@
 -- Each exit of tally.
-use Rattle.std.proofs.Common.{◌≡◌, ℕ, zero, suc, ◌+◌, ◌-◌, ◌<◌, ◌≤◌, List, [], ◌∷◌, length, get_or, Ok, Err, Result, sym, refl, ap, ◌∙◌, subst, arith}
+use Rattle.std.proofs.Common.{◌≡◌, ℕ, zero, suc, ◌<◌, List, Ok, Err, Result, sym, refl, ap, ◌∙◌, subst, arith}
 use Rattle.pages.specs.Image.{Image, spent}
 use Rattle.layout.specs.declared.entry.Entry.{Entry}
 use Rattle.layout.specs.Edits.{found}
@@ -7,9 +7,8 @@ use Rattle.tree.specs.CopyPages.{pick}
 use Rattle.tree.specs.CopyMemory.{leaf_at}
 use Rattle.faults.specs.declared.fault.Fault.{Fault}
 use Rattle.faults.specs.Accesses.{contents}
-use Rattle.paths.specs.PathsWrites.{after_reads}
 use Rattle.paths.specs.PathsPages.{Read}
-use Rattle.paths.specs.PathsReading.{Misread, counted}
+use Rattle.paths.specs.PathsReading.{counted}
 use Rattle.paths.specs.TallyRules.{Tallied}
 use Rattle.paths.proofs.PathsWriting.{after_none, after_more}
 use Rattle.paths.proofs.PathsReading.{Goes, at_child, misread_below}

@@ -1,9 +1,9 @@
 -- Each exit of withdraw at a page.
-use Rattle.std.proofs.Common.{◌≡◌, ℕ, zero, suc, ◌+◌, ◌-◌, ◌<◌, ◌≤◌, true, List, [], ◌∷◌, ◌++◌, length, get_or, drop, None, Ok, Err, Result, sym, refl, ap, ◌∙◌, subst, arith, length-append}
+use Rattle.std.proofs.Common.{◌≡◌, ℕ, zero, suc, ◌+◌, ◌<◌, ◌≤◌, true, List, [], ◌++◌, length, drop, None, Ok, Err, Result, sym, refl, ap, ◌∙◌, subst, arith, length-append}
 use Rattle.pages.specs.Image.{Image, spent}
 use Rattle.layout.specs.declared.entry.Entry.{Entry}
 use Rattle.layout.specs.Edits.{found}
-use Rattle.tree.specs.Tree.{Held, Contents}
+use Rattle.tree.specs.Tree.{Held}
 use Rattle.tree.specs.CopyWrites.{Write}
 use Rattle.tree.specs.CopyMoves.{Made, remove}
 use Rattle.tree.specs.CopyPages.{pick, clear}
@@ -18,7 +18,7 @@ use Rattle.paths.specs.WithdrawEdits.{TakesOne, left_of}
 use Rattle.paths.specs.PathsWrites.{after_reads, Wrote, Unwrites}
 use Rattle.paths.specs.PathsPages.{Read, UnreadPage}
 use Rattle.paths.specs.PathsReading.{Misread, back}
-use Rattle.paths.specs.Withdrawals.{Gives, Placed, PlacesLeft, Refusal, Done, Withdrawn, Traced}
+use Rattle.paths.specs.Withdrawals.{Placed, PlacesLeft, Refusal, Done, Withdrawn, Traced}
 use Rattle.paths.specs.Withdrawals.Refusal.{misread, no_event, unwrites}
 use Rattle.paths.proofs.PathsWriting.{wrote_more, unwrites_more, unwrites_less, after_more}
 use Rattle.paths.proofs.PathsReading.{Goes, at_child, misread_here, misread_below}

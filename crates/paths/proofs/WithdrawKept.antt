@@ -1,5 +1,5 @@
 -- Withdraw from the root, and where a state is kept.
-use Rattle.std.proofs.Common.{◌≡◌, ℕ, zero, suc, ◌+◌, ◌-◌, ◌<◌, ◌≤◌, List, [], ◌∷◌, ◌++◌, length, take, drop, Some, None, Ok, Err, Option, Result, sym, refl, ap, ◌∙◌, subst, arith}
+use Rattle.std.proofs.Common.{◌≡◌, ℕ, zero, suc, ◌-◌, ◌≤◌, List, [], ◌∷◌, ◌++◌, length, take, drop, None, Ok, Err, Option, Result, sym, refl, ap, ◌∙◌, subst, arith}
 use Rattle.std.specs.List.{AllByRecursion as All}
 use Rattle.std.proofs.ByRecursion.{All-take, All-weaker}
 use Rattle.pages.specs.Image.{Image, Has}
@@ -11,10 +11,10 @@ use Rattle.tree.specs.Tree.Node.{leaf, inner}
 use Rattle.tree.specs.Tree.Held.{none, held}
 use Rattle.tree.specs.CopyWrites.{Write}
 use Rattle.tree.specs.CopyWrites as tree
-use Rattle.tree.specs.CopyMoves.{State, Step, withdraw_step}
+use Rattle.tree.specs.CopyMoves.{State, withdraw_step}
 use Rattle.tree.specs.CopyLaws.{Kept, Copies, SoundOf, pages_of, events_of, path_of, root_of, withdraw_takes}
-use Rattle.tree.specs.CopyMemory.{withdraw_at, path_at, leaf_at}
-use Rattle.tree.specs.CopyUpdate.{Handle, Update, withdraw_by, root_left, height_at, handle_of}
+use Rattle.tree.specs.CopyMemory.{withdraw_at, leaf_at}
+use Rattle.tree.specs.CopyUpdate.{Update, withdraw_by, root_left, height_at, handle_of}
 use Rattle.tree.proofs.CopyBase.{by_le, by_eq}
 use Rattle.tree.proofs.CopyKept.{number_law, range_law, withdraw_law}
 use Rattle.tree.proofs.CopyDescent.{tally_law}
@@ -24,9 +24,8 @@ use Rattle.faults.specs.declared.fault.Fault.TheVariants.{Shut, Outside, Work, A
 use Rattle.faults.specs.Accesses.{contents}
 use Rattle.paths.specs.declared.left.Left.{Left}
 use Rattle.paths.specs.declared.copied.Copied.{Copied}
-use Rattle.paths.specs.WithdrawEdits.{left_of}
 use Rattle.paths.specs.PathsWrites.{after_reads, Wrote, Unwrites}
-use Rattle.paths.specs.PathsReading.{back, counted, KeptAt}
+use Rattle.paths.specs.PathsReading.{counted}
 use Rattle.paths.specs.Withdrawals.{Done, Refusal, Traced}
 use Rattle.paths.specs.Withdrawals.Refusal.{misread, no_event, unwrites}
 use Rattle.paths.specs.WithdrawRules.{copied_of, CopiesLeft, RoomFor, NotWithdrawn, Withdrew, Withdraws, WithdrawIs, WithdrawNextLaw, WithdrawFreeLaw, WithdrawRefusedLaw}

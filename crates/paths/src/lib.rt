@@ -1,4 +1,6 @@
 // Lodge, withdraw and tally: reading and copying the path from the root to the leaf that an address belongs to.
+#![tactic(auto)]
+
 pub mod copied;
 mod left;
 pub mod lodge;

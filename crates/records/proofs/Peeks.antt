@@ -1,6 +1,6 @@
 -- Following a chain from its front.
-use Rattle.std.proofs.Common.{◌≡◌, ℕ, zero, suc, ◌+◌, ◌<◌, ◌≤◌, List, [], ◌∷◌, length, get_or, drop, Some, None, Option, sym, refl, ap, ◌∙◌, add-one, arith}
-use Rattle.std.specs.List.{slice_get, AllByRecursion as All}
+use Rattle.std.proofs.Common.{◌≡◌, ℕ, zero, suc, ◌+◌, ◌<◌, ◌≤◌, List, [], ◌∷◌, length, get_or, drop, Some, None, sym, refl, ap, add-one, arith}
+use Rattle.std.specs.List.{slice_get}
 use Rattle.records.specs.Chain.{Linked, Within}
 
 -- the numbers from the place j on begin at k, which is one of them

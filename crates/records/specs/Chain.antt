@@ -1,5 +1,5 @@
 -- Numbers that are chained by a table: the table has at each number the one after it, and 0 ends the chain.
-use Rattle.std.specs.Prelude.{◌≡◌, ℕ, zero, suc, ◌<◌, ◌≤◌, Bool, true, false, cond, not, ◌⊎◌, List, [], ◌∷◌, Some, None, filter, Option, ◌==◌, ◌≢◌, slice_index, slice_index_or}
+use Rattle.std.specs.Prelude.{◌≡◌, ℕ, zero, suc, ◌≤◌, Bool, true, false, cond, not, List, [], ◌∷◌, Some, None, filter, Option, ◌==◌, ◌≢◌, slice_index, slice_index_or}
 use Rattle.std.specs.List.{range_with_len, AllByRecursion as All}
 
 -- k is none of these numbers

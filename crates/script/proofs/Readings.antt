@@ -1,9 +1,9 @@
 -- A word of digits against what `parse` reads.
-use Rattle.std.proofs.Common.{◌≡◌, ℕ, ◌+◌, ◌-◌, ◌*◌, ◌^◌, ◌<◌, ◌≤◌, List, [], ◌∷◌, length, get_or, Some, None, Ok, Err, Result, ◌∙◌, arith, rules}
+use Rattle.std.proofs.Common.{ℕ, ◌^◌, ◌<◌, ◌≤◌, List, length, Some, None, Ok, Err, arith, rules}
 use Rattle.std.specs.Str.Parse.{ParsesUnsigned}
 use Rattle.std.specs.Result.{OkIff}
-use Rattle.std.proofs.lemmas.Str.Parse.{IsNumeralModel, FoldsDigits, numerals_by_fold, tells_by_index, parse_digits}
-use Rattle.script.specs.Numbers.{read_on, Digits, Writes, NumberIs}
+use Rattle.std.proofs.lemmas.Str.Parse.{IsNumeralModel, numerals_by_fold, tells_by_index, parse_digits}
+use Rattle.script.specs.Numbers.{read_on, Digits, NumberIs}
 
 own : IsNumeralModel Digits (read_on 0)
 own = numerals_by_fold Digits tells_by_index read_on (search rules)

@@ -1,4 +1,6 @@
 // Reading the bench's script lines: words, numbers, points, boxes, set-up lines, questions to the order, and calls of the index and the store.
+#![tactic(auto)]
+
 pub mod call;
 pub mod line;
 pub mod number;

@@ -1,4 +1,6 @@
 // Runs the script of each file that an argument names, one after the other, under its name.
+#![tactic(auto)]
+
 use session::run::run_script;
 use std::{env, fs};
 

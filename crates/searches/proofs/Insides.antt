@@ -1,5 +1,5 @@
 -- The test of an address decides whether it is one of the box; the first address by that test is the order's.
-use Rattle.std.proofs.Common.{◌≡◌, ℕ, zero, suc, ◌-◌, ◌*◌, ◌^◌, ◌<◌, ◌≤◌, Bool, true, false, ◌&&◌, List, get_or, Some, None, Decides, Option, refl, arith, ltb-true, lt-ltb, le-leb, leb-true}
+use Rattle.std.proofs.Common.{◌≡◌, ℕ, zero, suc, ◌-◌, ◌<◌, ◌≤◌, Bool, true, ◌&&◌, List, get_or, Some, None, Decides, Option, arith, ltb-true, lt-ltb, le-leb, leb-true}
 use Rattle.std.proofs.lemmas.Bool.{and_parts}
 use Rattle.orders.specs.Spaces.{Within}
 use Rattle.orders.specs.Orders.{Order, InBox, InSpaceOf, FirstIs, size}

@@ -1,5 +1,5 @@
 -- The search of a leaf's entries: a turn of the loop, and its ends.
-use Rattle.std.proofs.Common.{◌≡◌, ℕ, zero, suc, ◌+◌, ◌-◌, ◌<◌, ◌≤◌, Bool, true, false, List, [], ◌∷◌, ◌++◌, map, length, get_or, take, set, Some, None, Ok, Err, Decides, Option, Result, sym, refl, ap, ◌∙◌, subst, arith}
+use Rattle.std.proofs.Common.{◌≡◌, ℕ, suc, ◌+◌, ◌-◌, ◌<◌, ◌≤◌, Bool, List, [], ◌∷◌, ◌++◌, map, length, get_or, take, set, Some, None, Ok, Err, sym, refl, ap, ◌∙◌, arith}
 use Rattle.std.proofs.lemmas.List.{length-set, length_push, map_push, take_all}
 use Rattle.layout.specs.declared.entry.Entry.{Entry}
 use Rattle.layout.specs.Listed.{blank}
@@ -11,7 +11,7 @@ use Rattle.tree.specs.SearchRuns.{outcome, run}
 use Rattle.tree.specs.SearchRuns.Ending.{done, more}
 use Rattle.tree.proofs.SearchLooping.{entry_law}
 use Rattle.searches.specs.declared.find.Find.{Find}
-use Rattle.searches.specs.Finds.{Wanted, Passes, Tests, find_of, put_all, Holds}
+use Rattle.searches.specs.Finds.{Passes, Tests, find_of, put_all, Holds}
 use Rattle.tree.proofs.SearchTests.{decided_false}
 
 pub length_put_all : (memory : List Find) (used : ℕ) (xs : List Find) → length (put_all memory used xs) ≡ length memory

@@ -6,18 +6,18 @@ use Rattle.std.proofs.lemmas.Bool.{cases_order, cases_lt}
 use Rattle.layout.specs.declared.entry.Entry.{Entry}
 use Rattle.layout.specs.Listed.{blank}
 use Rattle.layout.specs.Bytes.{entries_of}
-use Rattle.orders.specs.Orders.{Order, Lawful, size, InBox, FirstIs}
-use Rattle.pages.specs.Image.{Image, Reads, spent}
+use Rattle.orders.specs.Orders.{Order, Lawful, size, FirstIs}
+use Rattle.pages.specs.Image.{Image, Reads}
 use Rattle.pages.specs.declared.fault.StoreFault.{StoreFault}
 use Rattle.pages.specs.declared.fault.StoreFault.TheVariants.{Absent, Uncharged}
 use Rattle.tree.specs.Tree.{Node, Forest, number, pages, pages_in, child_entries, Level, LevelIn, Contents, Stands, StandsIn}
 use Rattle.tree.specs.Tree.Node.{leaf, inner}
 use Rattle.tree.specs.Tree.Forest.{last, more}
 use Rattle.tree.specs.SearchSteps.{find_steps, from}
-use Rattle.tree.specs.SearchRuns.{Outcome, outcome, run, add_read}
+use Rattle.tree.specs.SearchRuns.{outcome, run, add_read}
 use Rattle.tree.specs.SearchRuns.Ending.{done, cut}
 use Rattle.tree.specs.SearchWalks.{walk, walk_in}
-use Rattle.tree.specs.SearchLoops.{Child, child, children, walk_child, walk_children}
+use Rattle.tree.specs.SearchLoops.{Child, child, children, walk_children}
 use Rattle.tree.specs.SearchLimits.{Agrees}
 use Rattle.tree.proofs.SearchLimiting.{pass_law, unpaid_law, leaf_law, inner_law}
 use Rattle.tree.proofs.SearchChild.{children_length, child_law}

@@ -1,8 +1,7 @@
 -- The search of a tree: what its walk comes to is the run of the theory's steps.
-use Rattle.std.proofs.Common.{◌≡◌, ℕ, zero, suc, ◌+◌, ◌-◌, ◌<◌, ◌≤◌, Bool, List, [], ◌∷◌, ◌++◌, map, length, take, drop, set, Some, None, Option, sym, refl, ap, ◌∙◌, subst, append_assoc, arith, take-append-drop, drop-set-lt}
+use Rattle.std.proofs.Common.{◌≡◌, ℕ, suc, ◌+◌, ◌-◌, ◌≤◌, Bool, List, [], ◌∷◌, ◌++◌, map, length, take, drop, set, Some, None, Option, sym, refl, ap, ◌∙◌, subst, append_assoc, arith, take-append-drop, drop-set-lt}
 use lib.Seq.{take-append_seam}
 use Rattle.std.proofs.lemmas.List.{length-set, take-set, take_more, get_or-set_same}
-use Rattle.layout.specs.declared.entry.Entry.{Entry}
 use Rattle.orders.specs.Orders.{Order, InSpaceOf, FirstIs, size}
 use Rattle.pages.specs.Image.{Image}
 use Rattle.tree.specs.Tree.{Node, Level, Ordered}
@@ -10,14 +9,13 @@ use Rattle.tree.specs.Tree.Node.{leaf, inner}
 use Rattle.tree.specs.SearchSteps.{Step, from, search_steps}
 use Rattle.tree.specs.SearchRuns.{Outcome, outcome, run, search_run}
 use Rattle.tree.specs.SearchWalks.{walk}
-use Rattle.tree.specs.SearchLimits.{Agrees}
 use Rattle.tree.proofs.SearchFirst.{first_least}
 use Rattle.tree.proofs.SearchWalking.{walk_law}
 use Rattle.searches.specs.declared.find.Find.{Find}
 use Rattle.searches.specs.declared.find.Found.{Found}
 use Rattle.searches.specs.declared.part.Part.{Part}
 use Rattle.searches.specs.Inside.{inside}
-use Rattle.searches.specs.Finds.{find_of, ending_of, put_all, Holds, Laid}
+use Rattle.searches.specs.Finds.{find_of, ending_of, put_all}
 use Rattle.searches.specs.Walking.{StandsAs, Walks}
 use Rattle.searches.specs.Searching.{finds_of, nothing, Tells, Searches}
 use Rattle.searches.proofs.Insides.{asked, asked_asks, wanted_tests}

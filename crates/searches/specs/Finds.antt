@@ -1,5 +1,5 @@
 -- What a search finds, in code: the test of an address, and what is put into the tray.
-use Rattle.std.specs.Prelude.{◌≡◌, ℕ, ◌+◌, ◌-◌, ◌<◌, ◌≤◌, Bool, List, [], ◌∷◌, map, length, Some, None, Decides, Option, slice_set}
+use Rattle.std.specs.Prelude.{◌≡◌, ℕ, ◌+◌, ◌-◌, ◌≤◌, Bool, List, [], ◌∷◌, map, length, Some, None, Decides, Option, slice_set}
 use Rattle.layout.specs.declared.entry.Entry.{Entry}
 use Rattle.orders.specs.Orders.{Order, InBox}
 use Rattle.orders.specs.declared.point.Point.{Point}

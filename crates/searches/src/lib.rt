@@ -1,4 +1,6 @@
 // The search of a tree of pages: the events of a box, by rising address.
+#![tactic(auto)]
+
 pub mod find;
 mod finding;
 mod part;

@@ -1,11 +1,11 @@
 -- What a slot store keeps of its slots and tables, and how a write moves it.
-use Rattle.std.proofs.Common.{◌≡◌, ℕ, zero, suc, ◌+◌, ◌-◌, ◌*◌, ◌^◌, ◌<◌, ◌≤◌, Bool, true, false, cond, eqb, ◌≢◌, ◌⊎◌, List, [], ◌∷◌, ◌++◌, map, length, get_or, take, drop, set, replicate, sym, refl, ap, ◌∙◌, subst, inl, inr, mod-eq_of_lt, arith, get_or-set_other, get_or-set_same}
-use Rattle.std.specs.List.{range_with_len, AllByRecursion as All}
+use Rattle.std.proofs.Common.{◌≡◌, ℕ, zero, suc, ◌+◌, ◌-◌, ◌^◌, ◌<◌, ◌≤◌, true, false, cond, eqb, ◌≢◌, List, [], ◌∷◌, length, get_or, take, drop, set, replicate, sym, refl, ap, ◌∙◌, subst, inl, inr, mod-eq_of_lt, arith, get_or-set_other, get_or-set_same}
+use Rattle.std.specs.List.{AllByRecursion as All}
 use Rattle.std.proofs.lemmas.Nat.{mod-pow-add}
-use Rattle.std.proofs.lemmas.Bool.{cases_eq, cases_lt, eq-eqb, ne_eqb}
-use Rattle.std.proofs.lemmas.List.{length-set, length-take, get_or-take, set-set, set_comm, length-drop}
+use Rattle.std.proofs.lemmas.Bool.{cases_eq, eq-eqb, ne_eqb}
+use Rattle.std.proofs.lemmas.List.{length-set, length-take, get_or-take, length-drop}
 use Rattle.records.specs.Chain.{Absent}
-use Rattle.slots.specs.Slot.{le16, number, filled, freed, slot_at, holder, page_in}
+use Rattle.slots.specs.Slot.{number, filled, freed, slot_at, holder, page_in}
 
 pub number_filled : (p : ℕ) (bytes : List ℕ) → p < 2 ^ 16 → number (filled p bytes) ≡ p
 number_filled p bytes h = omega (arith, mod-pow-add p 8 8, mod-eq_of_lt h)

@@ -1,16 +1,15 @@
 -- A slot store by what it keeps: its making and its write.
-use Rattle.std.proofs.Common.{◌≡◌, ℕ, zero, suc, ◌+◌, ◌-◌, ◌<◌, ◌≤◌, min, max, Bool, true, false, cond, not, eqb, ◌≢◌, ◌⊎◌, List, [], ◌∷◌, map, length, get_or, take, drop, set, replicate, Some, None, Ok, Err, filter, Option, sym, refl, ap, ◌∙◌, subst, inl, inr, arith}
+use Rattle.std.proofs.Common.{◌≡◌, ℕ, zero, suc, ◌+◌, ◌-◌, ◌<◌, ◌≤◌, min, max, Bool, true, false, cond, not, eqb, ◌≢◌, List, [], ◌∷◌, length, get_or, take, drop, set, replicate, Some, Ok, filter, sym, refl, ap, ◌∙◌, subst, inl, inr, arith}
 use Rattle.std.proofs.lemmas.List.{length-drop, take_all, length-set, get_or-set_other}
 use Rattle.std.specs.List.{range_with_len, AllByRecursion as All}
 use Rattle.std.proofs.ByRecursion.{All-get_or, All-from_get_or, all_kept_by, kept_by_passes}
 use Rattle.std.proofs.lemmas.Bool.{cases_eq, eq-eqb, ne_eqb, eqb-true}
-use Rattle.records.specs.declared.free.FreeList.{FreeList}
 use Rattle.records.specs.Chain.{Absent, Within, unmarked, Takes, Puts}
 use Rattle.records.specs.Free.{numbers}
 use Rattle.records.proofs.Frees.{numbers_within}
 use Rattle.records.proofs.Rising.{put_sure}
 use Rattle.slots.specs.declared.store.SlotStore.{SlotStore}
-use Rattle.slots.specs.Slot.{number, filled, freed, slot_at, span, holder, page_in, vacant, Allowed, Stores}
+use Rattle.slots.specs.Slot.{number, filled, freed, slot_at, span, page_in, vacant, Allowed, Stores}
 use Rattle.slots.specs.Sizes.{span_in, span_out}
 use Rattle.slots.specs.Survey.{Tables}
 use Rattle.slots.specs.Making.{Makes}

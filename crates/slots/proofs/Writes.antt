@@ -1,13 +1,12 @@
 -- A write of a slot store, by whether the page was in a slot before.
-use Rattle.std.proofs.Common.{◌≡◌, ℕ, zero, suc, ◌+◌, ◌-◌, ◌<◌, ◌≤◌, Bool, true, false, cond, eqb, ◌≢◌, ◌⊎◌, List, [], ◌∷◌, map, length, get_or, take, drop, set, Ok, Err, Result, sym, refl, ap, ◌∙◌, subst, inl, inr, arith}
+use Rattle.std.proofs.Common.{◌≡◌, ℕ, zero, suc, ◌+◌, ◌-◌, ◌<◌, ◌≤◌, true, false, cond, eqb, ◌≢◌, List, [], ◌∷◌, map, length, get_or, take, drop, set, sym, ap, ◌∙◌, subst, inl, inr, arith}
 use Rattle.std.specs.List.{range_with_len, AllByRecursion as All}
 use Rattle.std.proofs.lemmas.Bool.{cases_eq, eq-eqb, ne_eqb}
 use Rattle.std.proofs.lemmas.List.FromFn.{length-map-range_with_len, get_or-map-range_with_len}
 use Rattle.std.proofs.lemmas.List.{length-set, set-set, set_comm, drop-set-lt, get_or-set_same, get_or-set_other, ext_get_or}
 use Rattle.records.specs.Chain.{Absent, Distinct, Within}
 use Rattle.records.proofs.Pigeons.{pigeons}
-use Rattle.pages.specs.Image.{Image}
-use Rattle.slots.specs.Slot.{number, filled, freed, slot_at, holder, page_in, held, stored, returned}
+use Rattle.slots.specs.Slot.{number, filled, freed, slot_at, holder, page_in, stored, returned}
 use Rattle.slots.proofs.Moves.{Sound, by_home, holder_is, page_is, released, home_p, page_released, swapped, fill, page_filled}
 
 -- a list made by numbers from 1 on, with one of its elements replaced

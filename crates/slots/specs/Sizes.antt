@@ -1,11 +1,10 @@
 -- The proof that the ghost member `sized` of the slot store hands over: at most 65,535 pages of 128 bytes each, and a charge of 32 bits.
-use Rattle.std.specs.Prelude.{◌≡◌, ℕ, zero, suc, ◌+◌, ◌-◌, ◌^◌, ◌<◌, ◌≤◌, Bool, true, false, cond, List, [], ◌∷◌, map, length, take, drop, replicate, ◌==◌, slice_index_or, refl}
-use Rattle.std.proofs.Common.{sym, ◌∙◌, ap, arith}
-use Rattle.std.specs.List.{range_with_len}
+use Rattle.std.specs.Prelude.{◌≡◌, ℕ, zero, suc, ◌+◌, ◌-◌, ◌^◌, ◌<◌, ◌≤◌, Bool, true, false, cond, List, [], ◌∷◌, length, take, drop, replicate, ◌==◌, slice_index_or, refl}
+use Rattle.std.proofs.Common.{◌∙◌, ap, arith}
 use Rattle.std.proofs.lemmas.Bool.{eqb-false}
 use Rattle.std.proofs.lemmas.List.FromFn.{length-map-range_with_len, get_or-map-range_with_len}
 use Rattle.std.proofs.lemmas.List.{length-take, length-drop, get_or-take}
-use Rattle.pages.specs.Image.{Image, Sized}
+use Rattle.pages.specs.Image.{Sized}
 use Rattle.slots.specs.Slot.{number, past, holder, slot_at, span, page_in, held}
 
 past_low : (a n : ℕ) → a ≤ n → past a ≤ suc n

@@ -1,7 +1,7 @@
 -- The tables of a slot store, as its making reads them off the slots.
 use Rattle.std.specs.Prelude.{◌≡◌, ℕ, ◌+◌, ◌≤◌, Bool, false, not, List, [], length, Some, None, Ok, Err, Option, Result, ◌==◌, ◌≢◌, slice_index, slice_index_or}
 use Rattle.pages.specs.declared.making.MakingFault.{MakingFault}
-use Rattle.pages.specs.declared.making.MakingFault.TheVariants.{Slots, BadPages}
+use Rattle.pages.specs.declared.making.MakingFault.TheVariants.{Slots}
 use Rattle.slots.specs.declared.survey.Survey.{Survey}
 use Rattle.slots.specs.Slot.{number, slot_at, Allowed}
 

@@ -4,7 +4,6 @@ use Rattle.std.proofs.lemmas.Bool.{cond-true, cond-false, le-leb, lt-leb, eq-eqb
 use Rattle.layout.specs.declared.entry.Entry.{Entry}
 use Rattle.layout.specs.Content.{LeafKeys}
 use Rattle.tree.specs.Tree.{count_at}
-use Rattle.tree.specs.Tree.Held.{none}
 use Rattle.tree.specs.CopyMoves.{Split, ahead, cut, enter, fit, remove}
 use Rattle.tree.specs.CopyMoves.Split.{one, two}
 use Rattle.tree.proofs.CopyBase.{by_eq, by_le}

@@ -1,5 +1,5 @@
 -- The worked example computes.
-use Rattle.std.proofs.Common.{◌+◌, ◌≤◌, refl, arith}
+use Rattle.std.proofs.Common.{refl, arith}
 use Rattle.tree.specs.CopyExample.{ElevenLaw}
 
 pub eleven_law : ElevenLaw

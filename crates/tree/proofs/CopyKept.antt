@@ -1,14 +1,14 @@
 -- The laws of a kept state: what a whole step does, with the totals, the pages and the memory.
-use Rattle.std.proofs.Common.{◌≡◌, ℕ, zero, suc, ◌+◌, ◌-◌, ◌<◌, ◌≤◌, List, [], ◌∷◌, ◌++◌, length, take, drop, sym, refl, ap, ◌∙◌, subst, append-nil, arith, length-append, length-drop}
+use Rattle.std.proofs.Common.{◌≡◌, ℕ, suc, ◌+◌, ◌-◌, ◌≤◌, List, [], ◌∷◌, ◌++◌, length, drop, sym, refl, ap, ◌∙◌, subst, append-nil, arith, length-append, length-drop}
 use Rattle.std.specs.List.{AllByRecursion as All}
 use Rattle.layout.specs.declared.entry.Entry.{Entry}
 use Rattle.layout.specs.Content.{LeafKeys}
-use Rattle.tree.specs.Tree.{Node, Held, Contents, Sound, Stands, Level, pages, events, counts, count_at, number}
+use Rattle.tree.specs.Tree.{Node, Held, Contents, pages, counts, count_at}
 use Rattle.tree.specs.Tree.Node.{leaf, inner}
 use Rattle.tree.specs.Tree.Held.{none, held}
-use Rattle.tree.specs.CopyWrites.{Write, after, mark, times}
-use Rattle.tree.specs.CopyMoves.{State, Step, lodge_step, withdraw_step, lodge_from, withdraw_from, enter, remove}
-use Rattle.tree.specs.CopyLaws.{Kept, Copies, SoundOf, StandsOf, events_of, pages_of, path_of, usable, push_each, leaf_first, lodge_takes, withdraw_takes, path_drops, Within, LodgeLaw, WithdrawLaw, CountLaw, SumLaw, SortedLaw, GreatestLaw, NumberLaw, FrameLaw, AgreeLaw, EmptyLaw, RangeLaw, OpenedLaw}
+use Rattle.tree.specs.CopyWrites.{after, mark, times}
+use Rattle.tree.specs.CopyMoves.{State, Step, lodge_step, withdraw_step}
+use Rattle.tree.specs.CopyLaws.{Kept, Copies, SoundOf, StandsOf, events_of, pages_of, path_of, usable, push_each, leaf_first, lodge_takes, withdraw_takes, Within, LodgeLaw, WithdrawLaw, CountLaw, SumLaw, SortedLaw, GreatestLaw, NumberLaw, FrameLaw, AgreeLaw, EmptyLaw, RangeLaw, OpenedLaw}
 use Rattle.tree.proofs.CopyBase.{weigh_append}
 use Rattle.tree.proofs.CopyNumbers.{path_length}
 use Rattle.tree.proofs.CopyStanding

@@ -1,7 +1,7 @@
 -- lodge: the entries, the order, the levels, the filling.
 use Rattle.std.proofs.Common.{◌≡◌, ℕ, zero, suc, ◌≤◌, List, [], ◌++◌, sym, refl, ap, ◌∙◌, arith}
 use Rattle.layout.specs.declared.entry.Entry.{Entry}
-use Rattle.tree.specs.Tree.{Filled, FilledIn, Forest, Level, LevelIn, Node, Ordered, OrderedIn, events, events_in, level, size}
+use Rattle.tree.specs.Tree.{Filled, FilledIn, Forest, Level, LevelIn, Node, Ordered, OrderedIn, events, events_in, size}
 use Rattle.tree.specs.Tree.Node.{inner, leaf}
 use Rattle.tree.specs.Tree.Forest.{last, more}
 use Rattle.tree.specs.CopyMoves.{Made, Split, enter, fit, fit_in, lodge, lodge_in, place}

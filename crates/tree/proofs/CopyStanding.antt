@@ -9,7 +9,6 @@ use Rattle.tree.specs.Tree.Held.{held, none}
 use Rattle.tree.specs.CopyLaws.{StandsOf}
 use Rattle.tree.specs.CopyMoves.{Made, Split, ahead_in, as_last, as_more, cut_in, enter, fit, fit_in, held_before, held_last, held_more, keep, lodge, lodge_in, place, place_left, remove, withdraw, withdraw_in}
 use Rattle.tree.specs.CopyMoves.Split.{one, two}
-use Rattle.tree.specs.CopyPlaces.{at}
 use Rattle.tree.specs.CopyWrites.{Write, after, mark, put, times, written}
 use Rattle.tree.proofs.CopyBase.{by_eq, by_eq₂, by_le, mark_same, weigh_append}
 use Rattle.tree.proofs.CopyForests

@@ -1,9 +1,9 @@
 -- A whole step: a new root over a split one, the empty tree, and everything put together.
-use Rattle.std.proofs.Common.{◌≡◌, ℕ, zero, suc, ◌+◌, ◌-◌, ◌<◌, ◌≤◌, cond, eqb, List, [], ◌∷◌, ◌++◌, length, take, drop, sym, refl, ap, ◌∙◌, subst, arith}
+use Rattle.std.proofs.Common.{◌≡◌, ℕ, suc, ◌+◌, ◌-◌, ◌<◌, ◌≤◌, cond, eqb, List, [], ◌∷◌, ◌++◌, length, take, drop, sym, refl, ap, ◌∙◌, subst, arith}
 use Rattle.std.proofs.lemmas.List.{take_at, drop_at}
 use Rattle.layout.specs.declared.entry.Entry.{Entry}
 use Rattle.layout.specs.Content.{LeafKeys}
-use Rattle.tree.specs.Tree.{Contents, Filled, Forest, Held, Level, Node, Ordered, OrderedIn, Stands, count_at, events, events_in, level, pages}
+use Rattle.tree.specs.Tree.{Contents, Filled, Forest, Held, Level, Node, Ordered, OrderedIn, Stands, count_at, events, events_in, pages}
 use Rattle.tree.specs.Tree.Node.{inner, leaf}
 use Rattle.tree.specs.Tree.Forest.{last, more}
 use Rattle.tree.specs.Tree.Held.{held, none}

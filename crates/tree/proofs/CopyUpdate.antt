@@ -1,6 +1,6 @@
 -- The turn on a memory and a header is the state's step.
 use Rattle.std.proofs.Common.{◌≡◌, ℕ, zero, suc, List, [], ◌++◌, sym, refl, ap, ◌∙◌, append-nil, arith}
-use Rattle.tree.specs.Tree.{Contents, Held, Node, level, number}
+use Rattle.tree.specs.Tree.{Contents, Held, Node, number}
 use Rattle.tree.specs.Tree.Held.{held, none}
 use Rattle.tree.specs.CopyLaws.{SoundOf, lodge_takes, path_of, root_of}
 use Rattle.tree.specs.CopyMemory.{lodge_at, path_at, withdraw_at}

@@ -1,8 +1,7 @@
 -- What code knows on its way down a path, before the first write.
 use Rattle.std.specs.Prelude.{◌≡◌, ℕ, zero, suc, ◌+◌, ◌-◌, ◌<◌, ◌≤◌, true, cond, List, length, nat_le, slice_index}
 use Rattle.layout.specs.Content.{LeafKeys, Sized}
-use Rattle.tree.specs.Tree.{Held, Contents, count_at}
-use Rattle.tree.specs.Tree.Held.{none, held}
+use Rattle.tree.specs.Tree.{Contents, count_at}
 use Rattle.tree.specs.CopyMoves.{Split, State}
 use Rattle.tree.specs.CopyMoves.Split.{one, two}
 use Rattle.tree.specs.CopyLaws.{Kept, events_of, root_of}

@@ -6,7 +6,7 @@ use Rattle.tree.specs.Tree.Held.{none, held}
 use Rattle.tree.specs.CopyWrites.{Write}
 use Rattle.tree.specs.CopyMoves.{Split, Made, entry, front, behind, State, Step, lodge_step, withdraw_step}
 use Rattle.tree.specs.CopyMoves.Split.{one, two}
-use Rattle.tree.specs.CopyLaws.{Kept, root_of, path_of, events_of, lodge_takes}
+use Rattle.tree.specs.CopyLaws.{Kept, root_of, path_of, lodge_takes}
 use Rattle.tree.specs.CopyMemory.{page_at, lodge_at, withdraw_at, path_at, page_splits_at, path_splits_at}
 
 -- how a tree is reached: an empty one has the root 0 and the height 0

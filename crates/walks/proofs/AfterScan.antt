@@ -1,5 +1,5 @@
 -- For callers of a scan: its last page, and the pages that are left unmarked.
-use Rattle.std.proofs.Common.{◌≡◌, ℕ, min, Bool, true, false, cond, not, List, [], ◌∷◌, get_or, filter, refl, ap, ◌∙◌, arith}
+use Rattle.std.proofs.Common.{◌≡◌, ℕ, Bool, true, false, cond, not, List, [], ◌∷◌, get_or, filter, refl, ap, ◌∙◌, arith}
 use Rattle.tree.specs.Tree.{limit_of}
 use Rattle.tree.specs.Scan.{absent}
 use Rattle.walks.specs.Scans.{last_page, Marked}

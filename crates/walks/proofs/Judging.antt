@@ -1,7 +1,6 @@
 -- A visit by what the check of its page and the read of it answered.
-use Rattle.std.proofs.Common.{◌≡◌, ℕ, zero, suc, ◌+◌, ◌-◌, ◌<◌, ◌≤◌, Bool, true, false, cond, List, [], ◌∷◌, ◌++◌, Ok, Err, Decides, Result, sym, refl, ap, ◌∙◌, subst, arith}
+use Rattle.std.proofs.Common.{◌≡◌, ℕ, suc, ◌-◌, ◌≤◌, cond, List, [], ◌++◌, Ok, Err, sym, refl, ap, ◌∙◌, subst, arith}
 use Rattle.std.proofs.lemmas.Bool.{cond-true, cond-false}
-use Rattle.layout.specs.declared.entry.Entry.{Entry}
 use Rattle.layout.specs.declared.rules.PageRule.{PageRule}
 use Rattle.layout.specs.declared.rules.PageRule.TheVariants.{B as pageB, C as pageC, D as pageD, E as pageE}
 use Rattle.layout.specs.Content.{Content, Own, Filled, LeafKeys, InnerKeys}

@@ -1,17 +1,16 @@
 -- The end of a scan: rule F, and the answer by the outcome of the opening.
-use Rattle.std.proofs.Common.{◌≡◌, ℕ, suc, ◌+◌, ◌<◌, ◌≤◌, Bool, true, false, cond, ◌&&◌, eqb, leb, List, [], ◌∷◌, length, Ok, Err, Decides, Result, sym, refl, ap, ◌∙◌, subst, arith}
+use Rattle.std.proofs.Common.{◌≡◌, ℕ, suc, ◌+◌, ◌≤◌, Bool, true, false, cond, ◌&&◌, eqb, leb, List, [], ◌∷◌, length, Ok, Err, Decides, sym, refl, ap, ◌∙◌, subst, arith}
 use Rattle.std.proofs.lemmas.Bool.{cond-true, cond-false}
 use Rattle.std.proofs.lemmas.Bool.Decides.{Decides-eqb, Decides-and, Decides-like, not_from_Decides}
-use Rattle.pages.specs.Image.{Image, granted}
-use Rattle.tree.specs.declared.visit.Rule.{Rule}
+use Rattle.pages.specs.Image.{Image}
 use Rattle.tree.specs.declared.visit.Rule.TheVariants.{F}
-use Rattle.tree.specs.Scan.{Outcome, accepted, refused, uncharged, scan, start, room, concluded, opened}
+use Rattle.tree.specs.Scan.{Outcome, accepted, refused, scan, start, room, concluded, opened}
 use Rattle.tree.proofs.ScanTests.{decides_leb}
 use Rattle.faults.specs.Accesses.{contents}
 use Rattle.faults.specs.declared.fault.Fault.{Fault}
 use Rattle.faults.specs.declared.fault.Fault.TheVariants.{Shut, Outside, Work, Absent, Unread, NoHeader, OtherOrder, Unsound, NoEvent, CountFull, HeightFull, Room, Unwritten}
 use Rattle.walks.specs.declared.scanning.Seen.{Seen}
-use Rattle.walks.specs.Scans.{last_page, Accepts, Refuses, ScansPages, Scans}
+use Rattle.walks.specs.Scans.{last_page, Refuses, ScansPages, Scans}
 use Rattle.tree.proofs.SearchTests.{decided_false}
 
 room_decides : (limit : ℕ) (seen : List ℕ) → Decides (room limit seen) (1 ≤ length seen → length seen + 7 ≤ limit)

@@ -1,18 +1,17 @@
 -- What a turn of the scan's loop does: the outcome of what is left to do stays the same.
-use Rattle.std.proofs.Common.{◌≡◌, ℕ, zero, suc, ◌+◌, ◌-◌, ◌*◌, ◌<◌, ◌≤◌, Bool, true, false, cond, not, eqb, ◌≢◌, ◌⊎◌, List, [], ◌∷◌, ◌++◌, reverse, length, get_or, take, set, replicate, Some, None, Ok, Err, Decides, Option, Result, sym, refl, ap, ◌∙◌, subst, inl, inr, arith}
+use Rattle.std.proofs.Common.{◌≡◌, ℕ, zero, suc, ◌+◌, ◌-◌, ◌*◌, ◌<◌, ◌≤◌, Bool, true, false, not, eqb, ◌≢◌, List, [], ◌∷◌, ◌++◌, reverse, length, get_or, take, set, replicate, Some, None, Ok, Err, Decides, Result, sym, refl, ap, ◌∙◌, subst, inl, inr, arith}
 use Rattle.std.specs.List.{AllByRecursion as All}
 use Rattle.std.proofs.lemmas.List.{get_or-set_same, get_or-set_other, length-set, length-replicate, length-reverse, length-take-le}
-use Rattle.std.proofs.lemmas.Bool.{cases_eq, eq-eqb, ne_eqb, cond-true, cond-false, both_ways, not-true, not-false}
+use Rattle.std.proofs.lemmas.Bool.{cases_eq, eq-eqb, ne_eqb, cond-true, cond-false, both_ways, not-false}
 use Rattle.layout.specs.declared.rules.PageRule.{PageRule}
 use Rattle.layout.specs.declared.rules.PageRule.TheVariants.{B as pageB, C as pageC, D as pageD, E as pageE}
-use Rattle.layout.specs.Bytes.{content_of}
 use Rattle.records.specs.Tray.{Lays, Lifts}
-use Rattle.pages.specs.Image.{Image, Lacks, spent, granted}
+use Rattle.pages.specs.Image.{Image, spent, granted}
 use Rattle.tree.specs.declared.visit.Visit.{Visit}
 use Rattle.tree.specs.declared.visit.Rule.{Rule}
 use Rattle.tree.specs.declared.visit.Rule.TheVariants.{A}
 use Rattle.tree.specs.Tree.{Contents, Absent as NotIn, Apart}
-use Rattle.tree.specs.Scan.{visit, Outcome, accepted, refused, uncharged, Turn, breaks, unpaid, onward, absent, admits, charged, judged, turn, left_at, follow, scan, start}
+use Rattle.tree.specs.Scan.{visit, Outcome, accepted, refused, uncharged, Turn, breaks, onward, absent, admits, charged, judged, turn, left_at, follow, scan, start}
 use Rattle.tree.proofs.ScanTests.{absent_decides, admits_decides}
 use Rattle.tree.proofs.ScanTurns.{turn_forth}
 use Rattle.tree.proofs.ScanMarks.{InRange, few_marks}
@@ -21,7 +20,7 @@ use Rattle.faults.specs.Accesses.{contents}
 use Rattle.faults.specs.declared.fault.Fault.{Fault}
 use Rattle.faults.specs.declared.fault.Fault.TheVariants.{Shut, Outside, Work, Absent, Unread, NoHeader, OtherOrder, Unsound, NoEvent, CountFull, HeightFull, Room, Unwritten}
 use Rattle.walks.specs.Pending.{to_come}
-use Rattle.walks.specs.Visits.{rule_of_lem, Judges, Visits}
+use Rattle.walks.specs.Visits.{rule_of_lem, Visits}
 use Rattle.walks.specs.Scans.{Marked, Accepts, Refuses}
 use Rattle.walks.proofs.ChildVisits.{put_next}
 use Rattle.faults.proofs.Same.{same_contents}

@@ -1,8 +1,8 @@
 -- What the scan of an opening answers, told by the outcome of the theory's `opened`.
-use Rattle.std.specs.Prelude.{◌≡◌, ℕ, suc, ◌<◌, ◌≤◌, min, Bool, false, not, List, length, Ok, Err, Result, slice_index_or}
+use Rattle.std.specs.Prelude.{◌≡◌, ℕ, ◌<◌, ◌≤◌, min, Bool, false, not, List, length, Ok, Err, Result, slice_index_or}
 use Rattle.pages.specs.Image.{Image, granted}
 use Rattle.tree.specs.Tree.{limit_of}
-use Rattle.tree.specs.Scan.{Outcome, accepted, refused, uncharged, absent, scan, start, opened}
+use Rattle.tree.specs.Scan.{Outcome, accepted, refused, uncharged, absent, opened}
 use Rattle.faults.specs.Accesses.{contents}
 use Rattle.faults.specs.declared.fault.Fault.{Fault}
 use Rattle.faults.specs.declared.fault.Fault.TheVariants.{Shut, Outside, Work, Absent, Unread, NoHeader, OtherOrder, Unsound, NoEvent, CountFull, HeightFull, Room, Unwritten}

@@ -1,4 +1,4 @@
-use Rattle.std.proofs.Common.{◌≡◌, ℕ, ◌-◌, ◌*◌, ◌%◌, ◌^◌, ◌≤◌, sym, ap, subst, arith}
+use Rattle.std.proofs.Common.{ℕ, ◌-◌, ◌≤◌, sym, ap, subst}
 use Rattle.index.proofs.Heading.{few_bits, shifted, some_address}
 use Rattle.index.proofs.head.top_of.Goals as goal
 

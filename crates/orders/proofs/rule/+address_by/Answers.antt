@@ -1,4 +1,4 @@
-use Rattle.std.proofs.Common.{◌≡◌, ℕ, ◌+◌, ◌-◌, ◌*◌, ◌%◌, ◌^◌, ◌<◌, ◌≤◌, get_or, arith}
+use Rattle.std.proofs.Common.{◌≡◌, ◌+◌, ◌-◌, ◌*◌, ◌%◌, ◌<◌, get_or, arith}
 use Rattle.orders.specs.Interleave.{address_of}
 use Rattle.orders.specs.Interleaved.{bits_of}
 use Rattle.orders.specs.Laws.{address_step, address_lt, address_cap}

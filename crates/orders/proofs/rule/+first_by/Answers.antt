@@ -1,6 +1,5 @@
-use Rattle.std.proofs.Common.{◌≡◌, ℕ, ◌+◌, ◌-◌, ◌*◌, ◌/◌, ◌%◌, ◌^◌, ◌<◌, ◌≤◌, List, get_or, set, sym, ap, ◌∙◌, subst, arith, rules}
+use Rattle.std.proofs.Common.{◌≡◌, ℕ, ◌-◌, ◌<◌, ap, ◌∙◌, arith, rules}
 use Rattle.orders.specs.declared.space.Space.{Space}
-use Rattle.orders.specs.Interleave.{point_at, Touches, lacking}
 use Rattle.orders.specs.Interleaved.{bits_of}
 use Rattle.orders.proofs.Blocks.{apart, below, from_lower, from_upper, half_below, lower_at, upper_at, room_at}
 use Rattle.orders.proofs.rule.+first_by.Goals as goal

@@ -1,4 +1,4 @@
-use Rattle.std.proofs.Common.{◌≡◌, ℕ, ◌+◌, ◌-◌, ◌*◌, ◌/◌, ◌%◌, ◌^◌, ◌<◌, ◌≤◌, arith}
+use Rattle.std.proofs.Common.{◌≡◌, ◌-◌, ◌/◌, ◌<◌, arith}
 use Rattle.orders.specs.Interleaved.{bits_of}
 use Rattle.orders.specs.Laws.{point_step, room}
 use Rattle.orders.proofs.rule.+point_by.Goals as goal

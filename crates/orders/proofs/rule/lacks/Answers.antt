@@ -1,4 +1,4 @@
-use Rattle.std.proofs.Common.{◌≡◌, ℕ, ◌+◌, ◌-◌, ◌*◌, ◌≤◌, ap, ◌∙◌, ap₂, arith}
+use Rattle.std.proofs.Common.{◌≡◌, ◌-◌, ap, ◌∙◌, ap₂, arith}
 use Rattle.orders.specs.declared.space.Space.{Space}
 use Rattle.orders.specs.Interleaved.{bits_of}
 use Rattle.orders.specs.Laws.{used_total}

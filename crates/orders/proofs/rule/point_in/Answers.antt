@@ -1,4 +1,4 @@
-use Rattle.std.proofs.Common.{◌≡◌, ℕ, ◌/◌, ◌^◌, ◌≤◌, ap, ◌∙◌, subst}
+use Rattle.std.proofs.Common.{◌≡◌, ℕ, ◌^◌, ◌≤◌, ap, ◌∙◌, subst}
 use Rattle.orders.specs.declared.space.Space.{Space}
 use Rattle.orders.specs.Interleaved.{bits_of}
 use Rattle.orders.proofs.Blocks.{pow_le_of_shr}

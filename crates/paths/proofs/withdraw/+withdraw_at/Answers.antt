@@ -1,4 +1,4 @@
-use Rattle.std.proofs.Common.{◌≡◌, ℕ, ◌≤◌, refl, arith, rules}
+use Rattle.std.proofs.Common.{◌≤◌, arith, rules}
 use Rattle.std.proofs.lemmas.Result.{err_from_is_err_and}
 use Rattle.paths.proofs.PathsReading.{goes}
 use Rattle.paths.proofs.WithdrawClimbs.{unread_here, leaf_none, leaf_left, inner_fails, inner_climbs, used_below, traced}

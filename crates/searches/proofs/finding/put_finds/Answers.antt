@@ -1,4 +1,4 @@
-use Rattle.std.proofs.Common.{◌≡◌, ◌+◌, sym, refl, ap, ◌∙◌, subst}
+use Rattle.std.proofs.Common.{◌+◌, sym, refl, ap, ◌∙◌, subst}
 use Rattle.records.specs.declared.tray.Tray.{Tray}
 use Rattle.searches.specs.declared.find.Find.{Find}
 use Rattle.searches.proofs.LeafFinds.{AllSearched, searched_none, searched_all, passed_by, found_one, no_room}

@@ -1,6 +1,6 @@
-use Rattle.std.proofs.Common.{◌≡◌, ◌+◌, ◌-◌, ◌<◌, ◌≤◌, [], sym, refl, ap, ◌∙◌, subst, inl, inr, arith}
+use Rattle.std.proofs.Common.{◌+◌, ◌-◌, [], refl, ◌∙◌, inl, inr, arith}
 use Rattle.searches.specs.declared.find.Ending.TheVariants.{Done}
-use Rattle.searches.proofs.PageWalk.{Turned, passed, cut_off, leaf_walked, turned_none, turned_more, inner_walked, not_done, turned_to}
+use Rattle.searches.proofs.PageWalk.{passed, cut_off, leaf_walked, turned_none, turned_more, inner_walked, not_done, turned_to}
 use Rattle.searches.proofs.walking.+walk_page.Goals as goal
 use Rattle.searches.proofs.walking.+walk_page.Goals.{then-j-entries, else-j-entries}
 

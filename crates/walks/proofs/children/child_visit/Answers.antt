@@ -1,4 +1,4 @@
-use Rattle.std.proofs.Common.{◌≡◌, suc, ◌-◌, ◌<◌, ◌≤◌, sym, refl, ap, ◌∙◌, subst, arith}
+use Rattle.std.proofs.Common.{◌-◌, arith}
 use Rattle.walks.proofs.ChildVisits.{key_below, begins_past, child_at}
 use Rattle.walks.proofs.children.child_visit.Goals as goal
 use Rattle.walks.proofs.children.child_visit.Goals.{then-i-eq0, else-i-eq0, then-i-entries, else-i-entries}

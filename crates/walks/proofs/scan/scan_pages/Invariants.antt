@@ -1,4 +1,4 @@
-use Rattle.std.proofs.Common.{◌≡◌, ℕ, suc, ◌+◌, ◌-◌, ◌≤◌, List, [], length}
+use Rattle.std.proofs.Common.{ℕ, suc, ◌+◌, ◌-◌, ◌≤◌, List, [], length}
 use Rattle.tree.specs.Scan.{scan, start}
 use Rattle.faults.specs.Accesses.{contents}
 use Rattle.walks.specs.Pending.{to_come}

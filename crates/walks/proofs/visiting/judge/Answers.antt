@@ -1,4 +1,4 @@
-use Rattle.std.proofs.Common.{◌≡◌, ◌-◌, ◌≤◌, ◌++◌, length, sym, refl, ap, ◌∙◌, subst, arith}
+use Rattle.std.proofs.Common.{◌-◌, ◌++◌, refl, ap, ◌∙◌, arith}
 use Rattle.layout.specs.Bytes.{content_of}
 use Rattle.tree.specs.Tree.{counts}
 use Rattle.tree.specs.Scan.{child_visits}

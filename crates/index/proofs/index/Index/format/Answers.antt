@@ -1,8 +1,7 @@
-use Rattle.std.proofs.Common.{◌≡◌, ℕ, Bool, false, List, length, get_or, replicate, sym, refl, ap, ◌∙◌, arith}
+use Rattle.std.proofs.Common.{◌≡◌, false, replicate, refl, ap, ◌∙◌, arith}
 use Rattle.std.proofs.lemmas.Result.{err_from_is_err_and}
 use Rattle.tree.specs.CopyLaws.{usable, upward}
 use Rattle.layout.specs.Heads.{header_bytes}
-use Rattle.records.specs.Chain.{unmarked}
 use Rattle.records.specs.Free.{numbers}
 use Rattle.index.specs.Model.{limit}
 use Rattle.index.specs.Keeping.{header_for}

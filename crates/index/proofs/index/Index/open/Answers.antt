@@ -1,10 +1,8 @@
-use Rattle.std.proofs.Common.{◌≡◌, ℕ, ◌-◌, min, List, length, Ok, Err, sym, refl, ap, ◌∙◌, subst, arith}
-use Rattle.pages.specs.Image.{Image, spent}
+use Rattle.std.proofs.Common.{◌≡◌, ℕ, ◌-◌, min, length, Ok, Err, refl, ap, ◌∙◌, arith}
+use Rattle.pages.specs.Image.{Image}
 use Rattle.records.specs.Chain.{unmarked}
 use Rattle.records.specs.Free.{numbers}
-use Rattle.walks.specs.Scans.{Scans}
 use Rattle.index.specs.Model.{limit}
-use Rattle.index.specs.Keeping.{top}
 use Rattle.index.specs.Opening.{ReadsOurs}
 use Rattle.index.specs.Opening.Opening.{few_records}
 use Rattle.index.specs.View.{view}

@@ -1,4 +1,4 @@
-use Rattle.std.proofs.Common.{◌≡◌, ℕ, List, length, refl, ap}
+use Rattle.std.proofs.Common.{length, refl, ap}
 use Rattle.records.specs.Free.{numbers}
 use Rattle.orders.specs.declared.point.Point.{Point}
 use Rattle.index.specs.View.{view}

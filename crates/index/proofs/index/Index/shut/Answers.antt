@@ -1,5 +1,4 @@
 use Rattle.std.proofs.Common.{refl}
-use Rattle.records.specs.Free.{numbers}
 use Rattle.index.specs.View.{view}
 use Rattle.index.proofs.Resets.{shuts_down}
 use Rattle.index.proofs.index.Index.shut.Goals as goal

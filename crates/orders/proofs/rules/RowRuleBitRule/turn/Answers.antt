@@ -1,4 +1,4 @@
-use Rattle.std.proofs.Common.{◌≡◌, ℕ, ◌/◌, ◌≤◌, subst, arith}
+use Rattle.std.proofs.Common.{ℕ, ◌/◌, ◌≤◌, subst, arith}
 use Rattle.std.proofs.lemmas.Nat.{div_below}
 use Rattle.orders.proofs.rules.RowRuleBitRule.turn.Goals as goal
 

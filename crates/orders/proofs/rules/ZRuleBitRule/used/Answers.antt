@@ -1,4 +1,4 @@
-use Rattle.std.proofs.Common.{◌≡◌, ℕ, ◌+◌, ◌/◌, ◌<◌, ◌≤◌, sym, ap, ◌∙◌, subst, arith}
+use Rattle.std.proofs.Common.{◌≡◌, ℕ, ◌+◌, ◌/◌, ◌<◌, sym, ap, ◌∙◌, arith}
 use Rattle.orders.specs.Spaces.{Range}
 use Rattle.orders.specs.Rules.{z_turn, z_used}
 use Rattle.orders.specs.Laws.{used_le}

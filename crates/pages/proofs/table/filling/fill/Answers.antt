@@ -1,4 +1,3 @@
-use Rattle.std.proofs.Common.{refl, arith}
 use Rattle.pages.proofs.Rooms.{fill_start, fill_more, fill_none}
 use Rattle.pages.proofs.table.filling.fill.Goals as goal
 use Rattle.pages.proofs.table.filling.fill.Goals.{then-n-lt1024, else-n-lt1024}

@@ -1,4 +1,4 @@
-use Rattle.std.proofs.Common.{ℕ, List, map, subst}
+use Rattle.std.proofs.Common.{ℕ, List, subst}
 use Rattle.pages.specs.Image.{Writes}
 use Rattle.pages.proofs.Turns.{writes}
 use Rattle.pages.proofs.turned.TurnedPageStore.write.Goals as goal

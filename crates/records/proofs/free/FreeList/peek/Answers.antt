@@ -1,4 +1,4 @@
-use Rattle.std.proofs.Common.{◌≡◌, ℕ, ◌<◌, ◌≤◌, length, Some, sym, subst, arith}
+use Rattle.std.proofs.Common.{◌≡◌, ℕ, Some, sym, subst, arith}
 use Rattle.std.specs.List.{slice_get}
 use Rattle.records.specs.Free.{numbers}
 use Rattle.records.proofs.Frees.{kept, numbers_within}

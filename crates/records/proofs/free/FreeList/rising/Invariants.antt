@@ -1,4 +1,4 @@
-use Rattle.std.proofs.Common.{◌-◌, ◌≤◌}
+use Rattle.std.proofs.Common.{◌-◌}
 use Rattle.records.specs.Free.{numbers}
 use Rattle.records.proofs.Rising.{Built}
 use Rattle.records.proofs.free.FreeList.rising.Given as goal
