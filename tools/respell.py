@@ -21,7 +21,7 @@ TOKEN = re.compile(WORD)
 USE = re.compile(r"\buse Rattle\.([^\s;{]+?)(?:\.?\{([^}]*)\}| as (\S+)|(?=;|[ \t]*$))", re.M)
 HEAD = re.compile(r"^(?:(?:abbrev|unfoldable|pub|mutual) )*((?:data|record) (?:pub )?)?(" + WORD + r")(?= )")
 FIELD = re.compile(r"^\s+(?:pub )?((?:" + WORD + r" )+):")
-# Names that would fall together with another when respelled, and three that port.py gave a capital although they are no facts.
+# Names that would fall together with another when respelled, and four that port.py gave a capital although they are no facts.
 GIVEN = {
     "Leaf-place": "FindsLeafPlace",
     "Child-place": "FindsChildPlace",
@@ -30,6 +30,7 @@ GIVEN = {
     "If-accepted": "if_accepted",
     "Holds-after": "holds_after",
     "No-page": "no_page",
+    "None-found": "none_found",
 }
 # generated: the answers, invariants and measures that Rattle asks for
 MADE = re.compile(r"^(?:abbrev )?(?:pub )?(" + WORD + r") : goal\.")
@@ -168,7 +169,7 @@ def scope_of(f, text):
                 table[old] = known[old]
             if " as " in name:
                 own = name.split(" as ")[1].strip()
-                new = respelled(own, "type" if old[:1].isupper() else "word")
+                new = respelled(own, "type" if own[:1].isupper() else "word")
                 if new != own:
                     table[own] = new
         alias = alias or path.split(".")[-1]

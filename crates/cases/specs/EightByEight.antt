@@ -20,9 +20,9 @@ abbrev pub at : ℕ → ℕ → List ℕ
 at x y = x ∷ y ∷ 0 ∷ 0 ∷ []
 
 -- a statement of each member of a list
-abbrev pub All : {A : Type 0} → (A → Type 0) → List A → Type 0
-All P [] = Unit {0}
-All P (x ∷ xs) = P x × All P xs
+abbrev pub Each : {A : Type 0} → (A → Type 0) → List A → Type 0
+Each P [] = Unit {0}
+Each P (x ∷ xs) = P x × Each P xs
 
 -- a is a member of the list
 abbrev pub Among : List ℕ → ℕ → Type 0
@@ -31,7 +31,7 @@ Among (x ∷ xs) a = (a ≡ x) ⊎ Among xs a
 
 -- each point has the address beside it
 abbrev pub Addresses : Order → List (List ℕ × ℕ) → Type 0
-Addresses o = All (λ c. AddressIs o c.0 (Some c.1))
+Addresses o = Each (λ c. AddressIs o c.0 (Some c.1))
 
 abbrev pub ZAddresses : Type 0
 ZAddresses = Addresses z ((at 6 2, 28) ∷ (at 3 5, 39) ∷ (at 5 3, 27) ∷ [])
@@ -48,7 +48,7 @@ BoxAddresses = (a : ℕ) → (InBox z (at 3 3) (at 4 4) a → Among members a) �
 
 -- the first address of that box at or above the number is the one beside it
 abbrev pub Firsts : Order → List (ℕ × Option ℕ) → Type 0
-Firsts o = All (λ c. FirstIs o (at 3 3) (at 4 4) c.0 c.1)
+Firsts o = Each (λ c. FirstIs o (at 3 3) (at 4 4) c.0 c.1)
 
 abbrev pub ZFirsts : Type 0
 ZFirsts = Firsts z ((16, Some 26) ∷ (49, None) ∷ [])

@@ -7,7 +7,7 @@ use Rattle.index.specs.Model.{Call, Answer, State, state}
 use Rattle.index.specs.Model.Call.{searches, grants}
 use Rattle.index.specs.Model.Answer.{accepted, found}
 use Rattle.index.specs.Model.Known.{shut}
-use Rattle.cases.specs.EightByEight.{z, at, All}
+use Rattle.cases.specs.EightByEight.{z, at, Each}
 use Rattle.cases.specs.Branch.{Chain, day, all_accepted}
 
 -- one event
@@ -26,7 +26,7 @@ ReadsOut (charge, room, a) = (m : Image) (answers : List Answer) (u : State) →
 -- With 3 it is done; with 2 it finds two and is cut at 6, the first address of page 4; with 0 it is cut at 4, at the root, page 5; with room for one it ends more
 -- at 5, after two reads.
 abbrev pub Readouts : Type 0
-Readouts = All ReadsOut (
+Readouts = Each ReadsOut (
     (3, 16, found (once 4 (at 2 0) ∷ once 5 (at 3 0) ∷ once 6 (at 2 1) ∷ once 7 (at 3 1) ∷ []) 3 done) ∷
     (2, 16, found (once 4 (at 2 0) ∷ once 5 (at 3 0) ∷ []) 2 (cut 4 6)) ∷
     (0, 16, found [] 0 (cut 5 4)) ∷

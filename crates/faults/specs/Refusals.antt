@@ -1,7 +1,7 @@
 -- What is told of a refusal: its number and the values that go with it, case by case.
 use Rattle.std.specs.Prelude.{ℕ, List, [], ◌∷◌}
 use Rattle.pages.specs.declared.fault.StoreFault.{StoreFault}
-use Rattle.pages.specs.declared.fault.StoreFault.TheVariants.{Absent as isAbsent, Uncharged as isUncharged}
+use Rattle.pages.specs.declared.fault.StoreFault.TheVariants.{Absent as is_absent, Uncharged as is_uncharged}
 use Rattle.tree.specs.declared.visit.Rule.{Rule}
 use Rattle.tree.specs.declared.visit.Rule.TheVariants.{A, B, C, D, E, F}
 use Rattle.faults.specs.declared.fault.Access.{Access}
@@ -25,8 +25,8 @@ number_of (Unwritten a) = 17
 
 -- a store's fault and a rule as numbers: 1 absent, 2 uncharged; A is 1, F is 6
 abbrev pub fault_number : StoreFault → ℕ
-fault_number isAbsent = 1
-fault_number isUncharged = 2
+fault_number is_absent = 1
+fault_number is_uncharged = 2
 
 abbrev pub letter : Rule → ℕ
 letter A = 1
@@ -57,8 +57,8 @@ values_of (Unwritten a) = access_values a
 
 -- a read or a write that the store refused, as a fault: absent pages are 8, want of charge is 9 at a read and 17 at a write
 abbrev pub by_fault : StoreFault → Fault → Fault → Fault
-by_fault isAbsent x y = x
-by_fault isUncharged x y = y
+by_fault is_absent x y = x
+by_fault is_uncharged x y = y
 
 abbrev pub unread : Access → Fault
 unread a = by_fault a.fault (Absent a) (Unread a)

@@ -1,6 +1,6 @@
 -- A path copy and the header over it make a step.
 use Rattle.std.proofs.Common.{◌≡◌, ℕ, ◌≤◌, min, List, [], ◌∷◌, ◌++◌, length, drop, Ok, Err, Result, sym, refl, ◌∙◌, subst, inl, inr, arith}
-use Rattle.std.specs.List.{AllByRecursion as All}
+use Rattle.std.specs.List.{AllByRecursion}
 use Rattle.pages.specs.Image.{Image, at, written, Writes}
 use Rattle.pages.specs.declared.fault.StoreFault.{StoreFault}
 use Rattle.pages.specs.declared.fault.StoreFault.TheVariants.{Absent, Uncharged}
@@ -40,7 +40,7 @@ pub record MadeCopy (o : Order) (m : Image) (f : Filed) (free : List ℕ) (t : T
   pub low : t.height ≤ 6
   pub counts : Within 65535 (events_of t.tree)
 
-all_front : (l : ℕ) (xs ys : List ℕ) → l ≤ 1024 → All (λ p. (2 ≤ p) × (p ≤ l)) (xs ++ ys) → FitsList xs
+all_front : (l : ℕ) (xs ys : List ℕ) → l ≤ 1024 → AllByRecursion (λ p. (2 ≤ p) × (p ≤ l)) (xs ++ ys) → FitsList xs
 all_front l [] ys small all = tt
 all_front l (x ∷ xs) ys small all = ((omega (arith, all.0.0), omega (arith, all.0.1)), all_front l xs ys small all.1)
 
@@ -53,7 +53,7 @@ module _ (o : Order) (m : Image) (k : Known) (f : Filed) (free : List ℕ) (hold
       let low = holds.low in
       let h : min f.height 6 ≡ f.height = omega arith in
       let range = range_law (contents m') (limit m) total (top o) t made.kept in
-      let all = subst (λ (xs : List ℕ). All (λ p. (2 ≤ p) × (p ≤ limit m)) xs) made.freed range.1 in
+      let all = subst (λ (xs : List ℕ). AllByRecursion (λ p. (2 ≤ p) × (p ≤ limit m)) xs) made.freed range.1 in
       let apart = subst (λ (xs : List ℕ). Apart xs) made.freed range.2 in
       let given' = subst (λ (n : ℕ). GivenBack g.path n (drop g.used free) free') h given in
       given' (all_front (limit m) (back f.height g.path) (drop g.used free) (omega arith) all) apart ∙ sym made.freed

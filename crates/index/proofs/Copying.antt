@@ -1,6 +1,6 @@
 -- A call that copies a path is a step: what is left to show of it is said once for lodge and withdraw.
 use Rattle.std.proofs.Common.{◌≡◌, ℕ, ◌≤◌, Bool, List, [], ◌∷◌, length, Ok, Err, Result, ◌∙◌, subst, arith}
-use Rattle.std.specs.List.{AllByRecursion as All}
+use Rattle.std.specs.List.{AllByRecursion}
 use Rattle.pages.specs.Image.{Image, at}
 use Rattle.orders.specs.Orders.{Order}
 use Rattle.tree.specs.Tree.{Absent}
@@ -23,7 +23,7 @@ use Rattle.index.proofs.Settling.{After, seal_size}
 use Rattle.index.proofs.Tallying.{open_steps, remembers}
 
 -- page 1 is none of the pages from 2 on
-pub above_one : (l : ℕ) (xs : List ℕ) → All (λ p. (2 ≤ p) × (p ≤ l)) xs → Absent 1 xs
+pub above_one : (l : ℕ) (xs : List ℕ) → AllByRecursion (λ p. (2 ≤ p) × (p ≤ l)) xs → Absent 1 xs
 above_one l [] all = tt
 above_one l (x ∷ xs) all = ((λ e. omega (arith, all.0.0)), above_one l xs all.1)
 

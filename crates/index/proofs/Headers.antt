@@ -1,6 +1,6 @@
 -- The header of a tree on file is proper, and says which tree it is.
 use Rattle.std.proofs.Common.{◌≡◌, ℕ, zero, suc, ◌^◌, ◌<◌, ◌≤◌, List, [], ◌∷◌, sym, refl, ap, ◌∙◌, inl, inr, arith}
-use Rattle.std.specs.List.{AllByRecursion as All}
+use Rattle.std.specs.List.{AllByRecursion}
 use Rattle.layout.specs.declared.entry.Entry.{Entry}
 use Rattle.layout.specs.declared.header.Header.{Header}
 use Rattle.layout.specs.Heads.{header_bytes, header_of, Proper, AllOrNone}
@@ -32,7 +32,7 @@ mutual
   some_events_in (more n k f) lo hi filled ordered =
       omega (arith, counts_append (events n) (events_in f), some_events n lo k filled.0 ordered.2)
 
-own_in_range : (n : Node) (l : ℕ) → All (λ p. (2 ≤ p) × (p ≤ l)) (pages n) → (2 ≤ number n) × (number n ≤ l)
+own_in_range : (n : Node) (l : ℕ) → AllByRecursion (λ p. (2 ≤ p) × (p ≤ l)) (pages n) → (2 ≤ number n) × (number n ≤ l)
 own_in_range (leaf p es) l range = range.0
 own_in_range (inner p f) l range = range.0
 

@@ -1,6 +1,6 @@
 -- The events of a box in the leaves are exactly the points of the box that hold events, with what they hold.
 use Rattle.std.proofs.Common.{◌≡◌, ℕ, suc, ◌+◌, ◌<◌, ◌≤◌, Bool, true, false, cond, List, [], ◌∷◌, map, filter, sym, refl, ap, ◌∙◌, subst, arith}
-use Rattle.std.specs.List.{ContainsAt as Has, AllByRecursion as All}
+use Rattle.std.specs.List.{ContainsAt as Has, AllByRecursion}
 use Rattle.std.proofs.ByRecursion.{All-weaker, All-map, all-has, all_kept_by, kept_by_passes, has_push, has_append_left, has_append_right}
 use Rattle.layout.specs.declared.entry.Entry.{Entry}
 use Rattle.layout.specs.Content.{LeafKeys}
@@ -23,7 +23,7 @@ has_here x xs = has_append_left (x ∷ []) xs x (has_push [] x)
 has_there : {X : Type 0} (y x : X) (xs : List X) → Has xs x → Has (y ∷ xs) x
 has_there y x xs h = has_append_right (y ∷ []) xs x h
 
-all_both : {X : Type 0} (P Q : X → Type 0) (xs : List X) → All P xs → All Q xs → All (λ x. P x × Q x) xs
+all_both : {X : Type 0} (P Q : X → Type 0) (xs : List X) → AllByRecursion P xs → AllByRecursion Q xs → AllByRecursion (λ x. P x × Q x) xs
 all_both P Q [] a b = tt
 all_both P Q (x ∷ xs) a b = ((a.0, b.0), all_both P Q xs a.1 b.1)
 
@@ -32,20 +32,20 @@ all_both P Q (x ∷ xs) a b = ((a.0, b.0), all_both P Q xs a.1 b.1)
 abbrev KeptByRules : ℕ → ℕ → Entry → Type 0
 KeptByRules lo hi e = (lo ≤ e.key) × (e.key ≤ hi) × (1 ≤ e.value)
 
-ruled : (lo hi : ℕ) (es : List Entry) → LeafKeys lo hi es → All (KeptByRules lo hi) es
+ruled : (lo hi : ℕ) (es : List Entry) → LeafKeys lo hi es → AllByRecursion (KeptByRules lo hi) es
 ruled lo hi [] k = tt
 ruled lo hi (e ∷ es) k =
     ((k.0, k.1, k.2), All-weaker (KeptByRules (suc e.key) hi) (KeptByRules lo hi) (λ x h. (omega (arith, h.0, k.0), h.1, h.2)) es (ruled (suc e.key) hi es k.3))
 
 -- each entry's count is the one that its key has
-counted_there : (e : Entry) (hi : ℕ) (es xs : List Entry) → All (KeptByRules (suc e.key) hi) xs → All (λ x. count_at es x.key ≡ x.value) xs → All (λ x. count_at (e ∷ es) x.key ≡ x.value) xs
+counted_there : (e : Entry) (hi : ℕ) (es xs : List Entry) → AllByRecursion (KeptByRules (suc e.key) hi) xs → AllByRecursion (λ x. count_at es x.key ≡ x.value) xs → AllByRecursion (λ x. count_at (e ∷ es) x.key ≡ x.value) xs
 counted_there e hi es [] a b = tt
 counted_there e hi es (x ∷ xs) a b = (
   by_eq (λ (n : ℕ). n + count_at es x.key ≡ x.value) e.key x.key e.value 0 (λ q. absurd (omega (arith, a.0.0))) (λ ne. omega (arith, b.0)),
   counted_there e hi es xs a.1 b.1,
 )
 
-counted : (lo hi : ℕ) (es : List Entry) → LeafKeys lo hi es → All (λ x. count_at es x.key ≡ x.value) es
+counted : (lo hi : ℕ) (es : List Entry) → LeafKeys lo hi es → AllByRecursion (λ x. count_at es x.key ≡ x.value) es
 counted lo hi [] k = tt
 counted lo hi (e ∷ es) k =
     let none : count_at es e.key ≡ 0 = count_below e.key (suc e.key) hi es (omega arith) k.3 in (
@@ -61,12 +61,12 @@ module _ (o : Order) (law : Lawful o) (h : History) (lo hi : List ℕ) where
   box es = map (find_of o) (filter test es)
 
   -- 2. they rise
-  rises : (low high : ℕ) (es : List Entry) → LeafKeys low high es → Rising (box es) × All (λ y. low ≤ y.address) (box es)
+  rises : (low high : ℕ) (es : List Entry) → LeafKeys low high es → Rising (box es) × AllByRecursion (λ y. low ≤ y.address) (box es)
   rises low high [] k = (tt, tt)
   rises low high (e ∷ es) k = go (test e) (rises (suc e.key) high es k.3)
     where
-      go : (b : Bool) → Rising (box es) × All (λ y. suc e.key ≤ y.address) (box es) →
-          Rising (map (find_of o) (cond b (e ∷ filter test es) (filter test es))) × All (λ y. low ≤ y.address) (map (find_of o) (cond b (e ∷ filter test es) (filter test es)))
+      go : (b : Bool) → Rising (box es) × AllByRecursion (λ y. suc e.key ≤ y.address) (box es) →
+          Rising (map (find_of o) (cond b (e ∷ filter test es) (filter test es))) × AllByRecursion (λ y. low ≤ y.address) (map (find_of o) (cond b (e ∷ filter test es) (filter test es)))
       go true r = (
         (All-weaker (λ y. suc e.key ≤ y.address) (λ y. e.key < y.address) (λ y l. omega arith) (box es) r.1, r.0),
         (k.0, All-weaker (λ y. suc e.key ≤ y.address) (λ y. low ≤ y.address) (λ y l. omega (arith, k.0)) (box es) r.1),
@@ -106,7 +106,7 @@ module _ (o : Order) (law : Lawful o) (h : History) (lo hi : List ℕ) where
           some = some;
         }
 
-    all_right : All (Right o h lo hi) (box es)
+    all_right : AllByRecursion (Right o h lo hi) (box es)
     all_right =
         All-map (Right o h lo hi) (find_of o) (filter test es)
         (All-weaker (λ e. (test e ≡ true) × (KeptByRules 0 (top o) e × (count_at es e.key ≡ e.value))) (λ e. Right o h lo hi (find_of o e)) (λ e f. right_one e f.0 f.1.0.2 f.1.1) (filter test es)

@@ -1,6 +1,6 @@
 -- Lodge is a step.
 use Rattle.std.proofs.Common.{◌≡◌, ℕ, suc, ◌+◌, ◌<◌, ◌≤◌, Bool, List, [], ◌∷◌, ◌++◌, length, drop, Ok, Err, Result, sym, refl, ap, ◌∙◌, subst, inl, inr, add-one, arith, take-append-drop}
-use Rattle.std.specs.List.{AllByRecursion as All}
+use Rattle.std.specs.List.{AllByRecursion}
 use Rattle.pages.specs.Image.{Image, at}
 use Rattle.orders.specs.Orders.{Order, Lawful}
 use Rattle.tree.specs.CopyWrites.{Write}
@@ -10,7 +10,7 @@ use Rattle.tree.specs.CopyUpdate.{lodge_by}
 use Rattle.tree.proofs.CopyKept.{lodge_law, greatest_law, range_law}
 use Rattle.faults.specs.Accesses.{contents}
 use Rattle.faults.specs.declared.fault.Fault.{Fault}
-use Rattle.faults.specs.declared.fault.Fault.TheVariants.{Shut, Outside, Work, Absent as isAbsent, Unread, NoHeader, OtherOrder, Unsound, NoEvent, CountFull, HeightFull, Room, Unwritten}
+use Rattle.faults.specs.declared.fault.Fault.TheVariants.{Shut, Outside, Work, Absent as is_absent, Unread, NoHeader, OtherOrder, Unsound, NoEvent, CountFull, HeightFull, Room, Unwritten}
 use Rattle.paths.specs.declared.copied.Copied.{Copied}
 use Rattle.paths.specs.PathsWrites.{Wrote, after_reads}
 use Rattle.paths.specs.LodgeKept.{Lodges, LodgeIs}
@@ -44,7 +44,7 @@ module _ (o : Order) (m : Image) (h r t : ℕ) (free : List ℕ) (f : Filed) (ho
   kept_tree : TreeKept (contents m) (limit m) f.total (top o) (tree_state f free)
   kept_tree = tree_kept o m h r t free f holds
 
-  free_range : All (λ p. (2 ≤ p) × (p ≤ limit m)) free
+  free_range : AllByRecursion (λ p. (2 ≤ p) × (p ≤ limit m)) free
   free_range = (range_law (contents m) (limit m) f.total (top o) (tree_state f free) kept_tree).1
 
   copies : lodge_takes f.tree f.height a + 6 ≤ length free →
@@ -89,7 +89,7 @@ module _ (o : Order) (m : Image) (h r t : ℕ) (free : List ℕ) (f : Filed) (ho
   refused_lodging Shut m' w = absurd w
   refused_lodging Outside m' w = absurd w
   refused_lodging Work m' w = absurd w
-  refused_lodging (isAbsent x) m' w = absurd w
+  refused_lodging (is_absent x) m' w = absurd w
   refused_lodging NoHeader m' w = absurd w
   refused_lodging OtherOrder m' w = absurd w
   refused_lodging (Unsound p q) m' w = absurd w

@@ -4,7 +4,7 @@ use Rattle.std.proofs.lemmas.Bool.{ne_eqb}
 use Rattle.records.specs.Chain.{unmarked}
 use Rattle.pages.specs.Image.{Image, at, Reads, spent}
 use Rattle.pages.specs.declared.fault.StoreFault.{StoreFault}
-use Rattle.pages.specs.declared.fault.StoreFault.TheVariants.{Absent as isAbsent, Uncharged as isUncharged}
+use Rattle.pages.specs.declared.fault.StoreFault.TheVariants.{Absent as is_absent, Uncharged as is_uncharged}
 use Rattle.layout.specs.declared.header.Header.{Header}
 use Rattle.orders.specs.Orders.{Order}
 use Rattle.tree.specs.CopyLaws.{usable, upward, unused}
@@ -25,10 +25,10 @@ use Rattle.index.specs.Opening.Opening.{absent, uncharged, no_header, other_orde
 
 module _ (o : Order) (m : Image) (k : Known) (work : ℕ) where
   at_page_one : (f : StoreFault) (m' : Image) → 64 ≤ work → Reads m 1 [] (Err f) m' [] → Opening o (state m k) work (refusal (unread_at (record { page = 1; level = 0; fault = f }))) (state m' shut)
-  at_page_one isAbsent m' records r =
+  at_page_one is_absent m' records r =
       let gone : length m.pages ≡ 0 = elim r.0 [ inl e ↦ absurd (omega arith) | inr lt ↦ omega arith ] in
       absent records gone refl (λ i. state (r.2 i) shut)
-  at_page_one isUncharged m' records r = uncharged records r.0.1 r.1 refl (λ i. state (r.3 i) shut)
+  at_page_one is_uncharged m' records r = uncharged records r.0.1 r.1 refl (λ i. state (r.3 i) shut)
 
   -- 8 to 11
   pub no_head : (f : Fault) (m' : Image) → 64 ≤ work → NoHead o m f m' → Opening o (state m k) work (refusal f) (state m' shut)

@@ -1,6 +1,6 @@
 -- A search is a step.
 use Rattle.std.proofs.Common.{◌≡◌, ℕ, ◌-◌, ◌≤◌, min, Bool, List, [], ◌∷◌, length, take, Ok, Err, sym, refl, ap, subst, arith}
-use Rattle.std.specs.List.{AllByRecursion as All}
+use Rattle.std.specs.List.{AllByRecursion}
 use Rattle.pages.specs.Image.{Image}
 use Rattle.orders.specs.Orders.{Order, InSpaceOf}
 use Rattle.faults.specs.Accesses.{contents}
@@ -41,7 +41,7 @@ pub refused_high : (o : Order) (m : Image) (k : Known) (lo hi x : List ℕ) (sta
 refused_high o m k lo hi x start room f e h = located_refused o m k hi (searches lo hi start room) f to_high (subst (λ (y : List ℕ). Located o k y (Err f)) e h)
 
 -- pages that a tree may use are pages of the store
-in_store : (l n : ℕ) → l ≡ min n 1024 → (ps : List ℕ) → All (λ p. (2 ≤ p) × (p ≤ l)) ps → All (λ p. (2 ≤ p) × (p ≤ n)) ps
+in_store : (l n : ℕ) → l ≡ min n 1024 → (ps : List ℕ) → AllByRecursion (λ p. (2 ≤ p) × (p ≤ l)) ps → AllByRecursion (λ p. (2 ≤ p) × (p ≤ n)) ps
 in_store l n e [] a = tt
 in_store l n e (p ∷ ps) ((two, le), rest) = ((two, omega arith), in_store l n e ps rest)
 

@@ -1,7 +1,7 @@
 -- The law over whole runs. An index is made, shut, over factory-blank memory with any charge; any of the eight calls are carried out, in any order and with any
 -- arguments, each on what the last one left; then a box is searched from address 0. It holds for every order and every store.
 use Rattle.std.specs.Prelude.{◌≡◌, ℕ, suc, ◌+◌, ◌<◌, ◌≤◌, List, [], ◌∷◌, ◌++◌, map, length, filter}
-use Rattle.std.specs.List.{ContainsAt as Has, AllByRecursion as All}
+use Rattle.std.specs.List.{ContainsAt as Has, AllByRecursion}
 use Rattle.pages.specs.Image.{Image, Blank, at, granted}
 use Rattle.layout.specs.Heads.{header_bytes}
 use Rattle.orders.specs.Orders.{Order, Lawful, InSpaceOf, Meets}
@@ -59,12 +59,12 @@ pub record Right (o : Order) (h : History) (lo hi : List ℕ) (x : Find) : Type 
 -- by strictly rising address, so each at most once
 abbrev pub Rising : List Find → Type 0
 Rising [] = Unit {0}
-Rising (x ∷ xs) = All (λ y. x.address < y.address) xs × Rising xs
+Rising (x ∷ xs) = AllByRecursion (λ y. x.address < y.address) xs × Rising xs
 
 -- exactly the points of the box that hold events
 pub record Exactly (o : Order) (h : History) (lo hi : List ℕ) (finds : List Find) : Type 0 where
   pub rising : Rising finds
-  pub right : All (Right o h lo hi) finds
+  pub right : AllByRecursion (Right o h lo hi) finds
   pub every : (x : List ℕ) → InSpaceOf o x → Within lo hi x → 0 < holds_after h x → (y : Find) × Has finds y × (y.point.coords ≡ x)
 
 -- What a search of the box has to find, and how many pages it has to read: the tree pages whose region holds the address of a point in the box.

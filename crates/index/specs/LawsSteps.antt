@@ -1,6 +1,6 @@
 -- What every step does to the counts of points, to the pages and to page 1.
 use Rattle.std.specs.Prelude.{◌≡◌, ℕ, suc, ◌+◌, ◌-◌, ◌≤◌, List, length, ◌≢◌}
-use Rattle.std.specs.List.{AllByRecursion as All}
+use Rattle.std.specs.List.{AllByRecursion}
 use Rattle.pages.specs.Image.{Image, Blank, at}
 use Rattle.layout.specs.Content.{LeafKeys}
 use Rattle.orders.specs.Orders.{Order, Lawful, InSpaceOf}
@@ -55,7 +55,7 @@ pub record Accounted (o : Order) (l : ℕ) (f : Filed) (free : List ℕ) : Type 
   -- together they are the pages 2 to L, each once, and number L - 1
   pub once : (p : ℕ) → times p (pages_of f.tree) + times p free ≡ times p (usable l)
   pub number : length (pages_of f.tree) + length free ≡ l - 1
-  pub range : All (λ p. (2 ≤ p) × (p ≤ l)) (pages_of f.tree) × All (λ p. (2 ≤ p) × (p ≤ l)) free
+  pub range : AllByRecursion (λ p. (2 ≤ p) × (p ≤ l)) (pages_of f.tree) × AllByRecursion (λ p. (2 ≤ p) × (p ≤ l)) free
   pub apart : Apart free
   -- a tree with pages leaves six free
   pub six : 1 ≤ length (pages_of f.tree) → 6 ≤ length free

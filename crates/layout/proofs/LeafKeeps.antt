@@ -1,6 +1,6 @@
 -- The edits of a leaf keep rule D.
 use Rattle.std.proofs.Common.{◌≡◌, ℕ, zero, suc, ◌+◌, ◌<◌, ◌≤◌, true, cond, eqb, leb, List, [], ◌∷◌, length, get_or, take, drop, Some, None, sym, refl, ap, ◌∙◌, subst, inl, inr, arith}
-use Rattle.std.specs.List.{AllByRecursion as All}
+use Rattle.std.specs.List.{AllByRecursion}
 use Rattle.std.proofs.lemmas.Bool.{cond_both, cond-true, cond-false, leb-true, leb-false, eqb-true, eqb-false, eq-eqb, ne_eqb, lt-leb, le-leb, cases_order}
 use Rattle.std.proofs.lemmas.List.{drop_more}
 use Rattle.layout.specs.declared.entry.Entry.{Entry}
@@ -29,11 +29,11 @@ found_each s end (e ∷ es) (suc i) k h =
     cond-false (leb (at es i).key e.key) _ _ (lt-leb (at es i).key e.key (omega arith)) ∙ found_each (suc e.key) end es i k.3 (omega arith)
 
 -- entries above an address have another key
-all_above : (a s end : ℕ) (es : List Entry) → a < s → LeafKeys s end es → All (λ e. e.key ≡ a → ⊥) es
+all_above : (a s end : ℕ) (es : List Entry) → a < s → LeafKeys s end es → AllByRecursion (λ e. e.key ≡ a → ⊥) es
 all_above a s end [] h k = tt
 all_above a s end (e ∷ es) h k = (λ q. omega (arith, k.0), all_above a (suc e.key) end es (omega (arith, k.0)) k.3)
 
-lacking : (a s end : ℕ) (es : List Entry) → LeafKeys s end es → found a es ≡ None → All (λ e. e.key ≡ a → ⊥) es
+lacking : (a s end : ℕ) (es : List Entry) → LeafKeys s end es → found a es ≡ None → AllByRecursion (λ e. e.key ≡ a → ⊥) es
 lacking a s end [] k f = tt
 lacking a s end (e ∷ es) k f =
     elim (cases_order a e.key) [

@@ -1,6 +1,6 @@
 -- What was written is read back.
 use Rattle.std.proofs.Common.{◌≡◌, ℕ, zero, suc, ◌+◌, ◌-◌, ◌*◌, ◌^◌, ◌<◌, ◌≤◌, min, true, List, [], ◌∷◌, ◌++◌, map, length, get_or, drop, replicate, Decides, sym, refl, ap, ◌∙◌, arith}
-use Rattle.std.specs.List.{flat_map, range_with_len, AllByRecursion as All}
+use Rattle.std.specs.List.{flat_map, range_with_len, AllByRecursion}
 use Rattle.std.proofs.lemmas.List.{same_lists, drop-drop}
 use Rattle.std.proofs.ByRecursion.{All-get_or}
 use Rattle.std.proofs.lemmas.Slice.Eq.{bytes_eq-Decides}
@@ -27,7 +27,7 @@ entry_of_bytes bs e i r f p =
     number_there 1 e.value (8 + 12 * i + 8) bs (0 ∷ 0 ∷ r) (sym (drop-drop 8 (8 + 12 * i) bs) ∙ ap (drop 8) p) f.1 in
     rw (k, v)
 
-module _ (level number : ℕ) (es : List Entry) (l : length es ≤ 10) (f : All Fit es) where
+module _ (level number : ℕ) (es : List Entry) (l : length es ≤ 10) (f : AllByRecursion Fit es) where
   abbrev bs : List ℕ
   bs = page_bytes level number es
 
@@ -61,5 +61,5 @@ round_trip level number es k l f =
     let p : page_bytes (level_of bs) (number_of bs) (entries_of bs) ≡ bs = λ i. page_bytes level (n i) (e i) in
     content_is level number es (content_of bs) refl n ((clean_decides bs).1 (sym p)) e
 
-pub holds : (level number : ℕ) (es : List Entry) (bs : List ℕ) → number < 2 ^ 16 → length es ≤ 10 → All Fit es → bs ≡ page_bytes level number es → Holds level number es bs
+pub holds : (level number : ℕ) (es : List Entry) (bs : List ℕ) → number < 2 ^ 16 → length es ≤ 10 → AllByRecursion Fit es → bs ≡ page_bytes level number es → Holds level number es bs
 holds level number es bs k l f e = (e, ap content_of e ∙ round_trip level number es k l f)

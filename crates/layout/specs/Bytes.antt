@@ -1,6 +1,6 @@
 -- Bytes of a tree page, both ways. All numbers are little-endian; a page has 128 bytes.
 use Rattle.std.specs.Prelude.{◌≡◌, ℕ, zero, suc, ◌+◌, ◌-◌, ◌*◌, ◌/◌, ◌%◌, ◌^◌, ◌<◌, ◌≤◌, min, Bool, List, [], ◌∷◌, ◌++◌, map, length, replicate, Decides, slice_index}
-use Rattle.std.specs.List.{range_with_len, flat_map, AllByRecursion as All}
+use Rattle.std.specs.List.{range_with_len, flat_map, AllByRecursion}
 use Rattle.std.specs.Str.{bytes_eq}
 use Rattle.layout.specs.declared.entry.Entry.{Entry}
 use Rattle.layout.specs.Content.{Content, page, Filled}
@@ -56,7 +56,7 @@ content_of bs = record { level = level_of bs; number = number_of bs; clean = cle
 
 -- numbers that are bytes
 abbrev pub Bytes : List ℕ → Type 0
-Bytes bs = All (λ b. b < 256) bs
+Bytes bs = AllByRecursion (λ b. b < 256) bs
 
 -- an entry whose key and value fit their bytes
 abbrev pub Fit : Entry → Type 0
@@ -64,7 +64,7 @@ Fit e = (e.key < 2 ^ 64) × (e.value < 2 ^ 16)
 
 -- An encoded page says what was encoded, where number, keys and values fit their bytes: no entries are lost, and it is clean.
 abbrev pub RoundTrip : Type 0
-RoundTrip = (level number : ℕ) (es : List Entry) → number < 2 ^ 16 → length es ≤ 10 → All Fit es → content_of (page_bytes level number es) ≡ page level number es
+RoundTrip = (level number : ℕ) (es : List Entry) → number < 2 ^ 16 → length es ≤ 10 → AllByRecursion Fit es → content_of (page_bytes level number es) ≡ page level number es
 
 -- the named zeros and the unused bytes of a page
 pub record Zeros (bs : List ℕ) : Type 0 where

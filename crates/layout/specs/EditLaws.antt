@@ -1,6 +1,6 @@
 -- What the edits of one page do to its keys and to its children's regions.
 use Rattle.std.specs.Prelude.{◌≡◌, ℕ, suc, ◌+◌, ◌<◌, ◌≤◌, cond, List, [], ◌∷◌, length, take, drop, Some, None, ◌==◌, ◌≢◌, nat_le, slice_index_or, slice_set}
-use Rattle.std.specs.List.{AllByRecursion as All}
+use Rattle.std.specs.List.{AllByRecursion}
 use Rattle.layout.specs.declared.entry.Entry.{Entry}
 use Rattle.layout.specs.Content.{LeafKeys, InnerKeys}
 use Rattle.layout.specs.Edits.{one, two, entry, ended, sixth, found, or_zero, enter, remove, child_for, child_start, child_end, put_child, drop_child_lem}
@@ -9,7 +9,7 @@ use Rattle.layout.specs.Edits.{one, two, entry, ended, sixth, found, or_zero, en
 pub record LeafEdits (start end : ℕ) (es : List Entry) : Type 0 where
   -- each entry is found by its key, and where nothing is found no entry has the key
   pub finds : (i : ℕ) → i < length es → found (slice_index_or es i (entry 0 0)).key es ≡ Some (slice_index_or es i (entry 0 0)).value
-  pub lacks : (a : ℕ) → found a es ≡ None → All (λ e. e.key ≢ a) es
+  pub lacks : (a : ℕ) → found a es ≡ None → AllByRecursion (λ e. e.key ≢ a) es
   -- so every sum of the counts that the entries have for an address is the count found
   pub counts : (f : List Entry → ℕ) (a : ℕ) → f [] ≡ 0 → ((e : Entry) (ds : List Entry) → f (e ∷ ds) ≡ cond (e.key == a) e.value 0 + f ds) → f es ≡ or_zero (found a es)
   -- an address of the region enters it, and one leaves it: D holds still; at most one entry comes or goes

@@ -1,6 +1,6 @@
 -- Worked encodings: pages as they stand in memory, byte by byte. Bytes past those written here are zero.
 use Rattle.std.specs.Prelude.{◌≡◌, ℕ, ◌-◌, false, List, [], ◌∷◌, ◌++◌, length, replicate}
-use Rattle.std.specs.List.{AllByRecursion as All}
+use Rattle.std.specs.List.{AllByRecursion}
 use Rattle.layout.specs.declared.entry.Entry.{Entry}
 use Rattle.layout.specs.declared.header.Header.{Header}
 use Rattle.layout.specs.Content.{page}
@@ -81,6 +81,6 @@ unclean_rows =
 
 -- each row is an encoding, and says what was encoded
 abbrev pub Examples : Type 0
-Examples = All (λ r. (header_bytes r.header ≡ padded r.bytes) × (header_of (padded r.bytes) ≡ r.header)) header_rows
-    × All (λ r. (page_bytes r.level r.number r.entries ≡ padded r.bytes) × (content_of (padded r.bytes) ≡ page r.level r.number r.entries)) page_rows
-    × All (λ bs. clean_of (padded bs) ≡ false) unclean_rows
+Examples = AllByRecursion (λ r. (header_bytes r.header ≡ padded r.bytes) × (header_of (padded r.bytes) ≡ r.header)) header_rows
+    × AllByRecursion (λ r. (page_bytes r.level r.number r.entries ≡ padded r.bytes) × (content_of (padded r.bytes) ≡ page r.level r.number r.entries)) page_rows
+    × AllByRecursion (λ bs. clean_of (padded bs) ≡ false) unclean_rows

@@ -1,6 +1,6 @@
 -- Lemmas on the loop that checks a list of bad pages and fills the table of a skip layer.
 use Rattle.std.proofs.Common.{◌≡◌, ℕ, ◌+◌, ◌-◌, ◌<◌, ◌≤◌, ◌⊎◌, List, [], ◌∷◌, ◌++◌, length, get_or, take, drop, sym, refl, ap, ◌∙◌, subst, inl, inr, arith}
-use Rattle.std.specs.List.{range_with_len, AllByRecursion as All}
+use Rattle.std.specs.List.{range_with_len, AllByRecursion}
 use Rattle.std.proofs.ByRecursion.{All-get_or, All-weaker}
 use Rattle.std.proofs.lemmas.List.{take-append-drop, drop_more, take_more, take_all, length-take, get_or-take}
 use Rattle.pages.specs.Skip.{good, places, Rises, Allowed}
@@ -16,7 +16,7 @@ final_lower : (low : ℕ) (ks : List ℕ) → Rises low ks → low ≤ final low
 final_lower low [] r = omega arith
 final_lower low (k ∷ ks) r = omega (arith, final_lower k ks r.1)
 
-final_most : (low : ℕ) (ks : List ℕ) → Rises low ks → All (λ k. k ≤ final low ks) ks
+final_most : (low : ℕ) (ks : List ℕ) → Rises low ks → AllByRecursion (λ k. k ≤ final low ks) ks
 final_most low [] r = tt
 final_most low (k ∷ ks) r = (final_lower k ks r.1, final_most k ks r.1)
 
@@ -46,7 +46,7 @@ unfolding good
 gone_none bad ps size l = record { few = omega arith; long = l; low = omega arith; rising = tt; end = refl; filled = refl }
 
 module _ (bad ps : List ℕ) (size i last count : ℕ) (g : Gone bad size i last count ps) where
-  below : All (λ k. k ≤ last) (take i bad)
+  below : AllByRecursion (λ k. k ≤ last) (take i bad)
   below = rw g.end (final_most 0 (take i bad) g.rising)
 
   module _ (b : ℕ) (lt : i < length bad) (is : b ≡ get_or bad i 0) where
@@ -93,7 +93,7 @@ module _ (bad ps : List ℕ) (size i last count : ℕ) (g : Gone bad size i last
       some = s;
       few = f;
       rising = subst (Rises 0) whole g.rising;
-      within = subst (All (λ k. k ≤ size)) whole (All-weaker (λ k. k ≤ last) (λ k. k ≤ size) (λ k h. (let l = g.low in omega arith)) (take i bad) below);
+      within = subst (AllByRecursion (λ k. k ≤ size)) whole (All-weaker (λ k. k ≤ last) (λ k. k ≤ size) (λ k h. (let l = g.low in omega arith)) (take i bad) below);
     }
 
 -- what the table's ghost fields say of the numbers entered

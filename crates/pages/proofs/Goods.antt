@@ -1,6 +1,6 @@
 -- Lemmas on the numbers that are not bad.
 use Rattle.std.proofs.Common.{◌≡◌, ℕ, zero, suc, ◌+◌, ◌-◌, ◌<◌, ◌≤◌, Bool, true, false, cond, not, eqb, List, [], ◌∷◌, ◌++◌, length, get_or, take, filter, refl, ap, ◌∙◌, append-nil, arith}
-use Rattle.std.specs.List.{range_with_len, AllByRecursion as All}
+use Rattle.std.specs.List.{range_with_len, AllByRecursion}
 use Rattle.std.proofs.lemmas.Bool.{eq-eqb, ne_eqb}
 use Rattle.std.proofs.lemmas.List.Elements.{filter-append}
 use Rattle.std.proofs.ByRecursion.{All-weaker, all_kept_by}
@@ -12,11 +12,11 @@ counting_split a zero k = let e : 0 + k ≡ k = omega arith in let f : a + 0 ≡
 counting_split a (suc n) k =
     let e : suc n + k ≡ suc (n + k) = omega arith in let f : a + suc n ≡ a + 1 + n = omega arith in rw (e, f, counting_split (a + 1) n k)
 
-counting_above : (low a n : ℕ) → low < a → All (λ k. low < k) (range_with_len a n)
+counting_above : (low a n : ℕ) → low < a → AllByRecursion (λ k. low < k) (range_with_len a n)
 counting_above low a zero h = tt
 counting_above low a (suc n) h = (h, counting_above low (a + 1) n (omega arith))
 
-counting_below : (high a n : ℕ) → a + n ≤ high → All (λ k. k < high) (range_with_len a n)
+counting_below : (high a n : ℕ) → a + n ≤ high → AllByRecursion (λ k. k < high) (range_with_len a n)
 counting_below high a zero h = tt
 counting_below high a (suc n) h = (omega arith, counting_below high (a + 1) n (omega arith))
 
@@ -25,16 +25,16 @@ counting_rises low a zero h = tt
 counting_rises low a (suc n) h = (h, counting_rises a (a + 1) n (omega arith))
 
 -- what a filter keeps depends on what it answers only
-kept_same : (p q : ℕ → Bool) (xs : List ℕ) → All (λ x. p x ≡ q x) xs → filter p xs ≡ filter q xs
+kept_same : (p q : ℕ → Bool) (xs : List ℕ) → AllByRecursion (λ x. p x ≡ q x) xs → filter p xs ≡ filter q xs
 kept_same p q [] a = refl
 kept_same p q (x ∷ xs) a = rw (a.0, kept_same p q xs a.1)
 
-kept_all : (p : ℕ → Bool) (xs : List ℕ) → All (λ x. p x ≡ true) xs → filter p xs ≡ xs
+kept_all : (p : ℕ → Bool) (xs : List ℕ) → AllByRecursion (λ x. p x ≡ true) xs → filter p xs ≡ xs
 kept_all p [] a = refl
 kept_all p (x ∷ xs) a = rw (a.0, kept_all p xs a.1)
 
 -- a number above all bad ones is none of them
-not_among : (low k : ℕ) (bad : List ℕ) → low < k → All (λ b. b ≤ low) bad → among k bad ≡ false
+not_among : (low k : ℕ) (bad : List ℕ) → low < k → AllByRecursion (λ b. b ≤ low) bad → among k bad ≡ false
 not_among low k [] h a = refl
 not_among low k (b ∷ bad) h a = let e : eqb k b ≡ false = ne_eqb k b (λ z. (let l = a.0 in omega arith)) in rw (e, not_among low k bad h a.1)
 
@@ -42,7 +42,7 @@ among_push : (k b : ℕ) (bad : List ℕ) → among k (bad ++ b ∷ []) ≡ cond
 among_push k b [] = elim (eqb k b) as (λ t. cond t true false ≡ t) [ true ↦ refl | false ↦ refl ]
 among_push k b (a ∷ bad) = elim (eqb k a) as (λ t. cond t true (among k (bad ++ b ∷ [])) ≡ cond (cond t true (among k bad)) true (eqb k b)) [ true ↦ refl | false ↦ among_push k b bad ]
 
-among_last : (last b : ℕ) (bad : List ℕ) → last < b → All (λ k. k ≤ last) bad → among b (bad ++ b ∷ []) ≡ true
+among_last : (last b : ℕ) (bad : List ℕ) → last < b → AllByRecursion (λ k. k ≤ last) bad → among b (bad ++ b ∷ []) ≡ true
 among_last last b bad h a =
     let t : eqb b b ≡ true = eq-eqb b b refl in let f : among b bad ≡ false = not_among last b bad h a in
     among_push b b bad ∙ rw (f, t)
@@ -53,7 +53,7 @@ among_other k b bad n =
     among_push k b bad ∙ rw f (elim (among k bad) as (λ t. cond t true false ≡ t) [ true ↦ refl | false ↦ refl ])
 
 -- past the last bad number all are good
-pub good_rest : (bad : List ℕ) (last n : ℕ) → last ≤ n → All (λ b. b ≤ last) bad → good bad n ≡ good bad last ++ range_with_len (last + 1) (n - last)
+pub good_rest : (bad : List ℕ) (last n : ℕ) → last ≤ n → AllByRecursion (λ b. b ≤ last) bad → good bad n ≡ good bad last ++ range_with_len (last + 1) (n - last)
 unfolding good
 good_rest bad last n h a =
     let p : ℕ → Bool = λ k. not (among k bad) in
@@ -65,7 +65,7 @@ good_rest bad last n h a =
     (All-weaker (λ k. last < k) (λ k. p k ≡ true) (λ k l. ap not (not_among last k bad l a)) (range_with_len (last + 1) (n - last)) (counting_above last (last + 1) (n - last) (omega arith))))
 
 -- one bad number more, above those before
-pub good_more : (bad : List ℕ) (last b : ℕ) → last < b → All (λ k. k ≤ last) bad → good (bad ++ b ∷ []) b ≡ good bad last ++ range_with_len (last + 1) (b - 1 - last)
+pub good_more : (bad : List ℕ) (last b : ℕ) → last < b → AllByRecursion (λ k. k ≤ last) bad → good (bad ++ b ∷ []) b ≡ good bad last ++ range_with_len (last + 1) (b - 1 - last)
 unfolding good
 good_more bad last b h a =
     let q : ℕ → Bool = λ k. not (among k (bad ++ b ∷ [])) in
@@ -73,7 +73,7 @@ good_more bad last b h a =
     let e : range_with_len 1 b ≡ range_with_len 1 (b - 1) ++ b ∷ [] =
     (let s : b ≡ b - 1 + 1 = omega arith in let t : 1 + (b - 1) ≡ b = omega arith in ap (range_with_len 1) s ∙ counting_split 1 (b - 1) 1 ∙ ap (λ (k : ℕ). range_with_len 1 (b - 1) ++ k ∷ []) t) in
     let gone : q b ≡ false = ap not (among_last last b bad h a) in
-    let same : All (λ k. q k ≡ p k) (range_with_len 1 (b - 1)) =
+    let same : AllByRecursion (λ k. q k ≡ p k) (range_with_len 1 (b - 1)) =
     All-weaker (λ k. k < b) (λ k. q k ≡ p k) (λ k l. ap not (among_other k b bad (λ z. omega arith))) (range_with_len 1 (b - 1)) (counting_below b 1 (b - 1) (omega arith)) in
     let tail : filter q (b ∷ []) ≡ [] = rw gone in
     ap (filter q) e ∙ filter-append q (range_with_len 1 (b - 1)) (b ∷ [])
@@ -99,12 +99,12 @@ pub good_rises : (bad : List ℕ) (n m : ℕ) → Rises 0 (take m (good bad n))
 unfolding good
 good_rises bad n m = take_rises m 0 (good bad n) (kept_rises (λ k. not (among k bad)) 0 (range_with_len 1 n) (counting_rises 0 1 n (omega arith)))
 
-all_take' : (P : ℕ → Type 0) (m : ℕ) (ks : List ℕ) → All P ks → All P (take m ks)
+all_take' : (P : ℕ → Type 0) (m : ℕ) (ks : List ℕ) → AllByRecursion P ks → AllByRecursion P (take m ks)
 all_take' P zero ks a = tt
 all_take' P (suc m) [] a = tt
 all_take' P (suc m) (k ∷ ks) a = (a.0, all_take' P m ks a.1)
 
-pub good_within : (bad : List ℕ) (n m : ℕ) → All (λ k. k ≤ n) (take m (good bad n))
+pub good_within : (bad : List ℕ) (n m : ℕ) → AllByRecursion (λ k. k ≤ n) (take m (good bad n))
 unfolding good
 good_within bad n m =
     all_take' (λ k. k ≤ n) m (good bad n) (all_kept_by (λ k. not (among k bad)) (λ k. k ≤ n) (range_with_len 1 n)

@@ -1,6 +1,6 @@
 -- The skip layer: the bad pages of the store below are left out; the layer's pages are the others, in their order.
 use Rattle.std.specs.Prelude.{◌≡◌, ℕ, ◌<◌, ◌≤◌, Bool, true, false, cond, not, List, [], ◌∷◌, map, length, take, filter, ◌==◌, nat_le}
-use Rattle.std.specs.List.{range_with_len, AllByRecursion as All}
+use Rattle.std.specs.List.{range_with_len, AllByRecursion}
 use Rattle.pages.specs.Image.{Image, at}
 
 -- whether k is one of these numbers
@@ -26,7 +26,7 @@ pub record Allowed (bad : List ℕ) (n : ℕ) : Type 0 where
   pub some : 0 < length bad
   pub few : length bad ≤ 64
   pub rising : Rises 0 bad
-  pub within : All (λ b. b ≤ n) bad
+  pub within : AllByRecursion (λ b. b ≤ n) bad
 
 -- the pages at these places, and the charge, of a store of meaning m
 abbrev pub placed : List ℕ → Image → Image

@@ -1,6 +1,6 @@
 -- Lodge where a state is kept.
 use Rattle.std.proofs.Common.{◌≡◌, ℕ, suc, ◌<◌, ◌≤◌, List, ◌∷◌, ◌++◌, length, drop, Ok, Err, Result, sym, refl, ap, ◌∙◌, subst, inl, inr, arith}
-use Rattle.std.specs.List.{AllByRecursion as All}
+use Rattle.std.specs.List.{AllByRecursion}
 use Rattle.std.proofs.ByRecursion.{All-take, All-weaker}
 use Rattle.pages.specs.Image.{Image, Has}
 use Rattle.tree.specs.CopyWrites as tree
@@ -54,10 +54,10 @@ refuses m m' s a f c i (few e p q r) = subst (λ (y : Fault). Lodges m s a (Err 
 
 -- the pages that a lodge writes exist
 exist : (m : Image) (limit total top : ℕ) (s : State) (a : ℕ) → Kept (contents m) limit total top s → limit ≤ length m.pages → a ≤ top → LodgeAllowed s a
-    → All (Has (after_reads m s.height)) (tree.written (lodge_step s a).writes)
+    → AllByRecursion (Has (after_reads m s.height)) (tree.written (lodge_step s a).writes)
 exist m limit total top s a k l t d =
     let In = λ (p : ℕ). (2 ≤ p) × (p ≤ limit) in
-    subst (All (Has (after_reads m s.height))) (sym (lodge_copies m limit total top s a k t d).wrote)
+    subst (AllByRecursion (Has (after_reads m s.height))) (sym (lodge_copies m limit total top s a k t d).wrote)
     (All-weaker In (Has (after_reads m s.height)) (λ p h. (omega (arith, h.0), omega (arith, h.1))) _
     (All-take In (lodge_needs s a) s.free (range_law (contents m) limit total top s k).1))
 

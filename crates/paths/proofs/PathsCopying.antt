@@ -1,6 +1,6 @@
 -- Writes to free pages: what they leave alone, and where they break off when every page is there.
 use Rattle.std.proofs.Common.{◌≡◌, ℕ, suc, ◌-◌, ◌≤◌, List, [], ◌∷◌, ◌++◌, length, sym, refl, ap, ◌∙◌, subst, arith, length-set}
-use Rattle.std.specs.List.{AllByRecursion as All}
+use Rattle.std.specs.List.{AllByRecursion}
 use Rattle.std.proofs.lemmas.List.{get_or-set_other}
 use Rattle.pages.specs.declared.fault.StoreFault.{StoreFault}
 use Rattle.pages.specs.declared.fault.StoreFault.TheVariants.{Uncharged}
@@ -23,7 +23,7 @@ pub stored_length : (ws : List Write) (m : Image) → length (stored ws m).pages
 stored_length [] m = refl
 stored_length (w ∷ ws) m = stored_length ws (written m w.page (encoded w.says)) ∙ length-set m.pages (w.page - 1) (encoded w.says)
 
-front_of : (P : ℕ → Type 0) (xs ys : List ℕ) → All P (xs ++ ys) → All P xs
+front_of : (P : ℕ → Type 0) (xs ys : List ℕ) → AllByRecursion P (xs ++ ys) → AllByRecursion P xs
 front_of P [] ys t = tt
 front_of P (x ∷ xs) ys t = (t.0, front_of P xs ys t.1)
 
@@ -44,8 +44,8 @@ wrote_alone ws done rest m m' h free left t e w = record {
   charge = omega (arith, ap (λ (z : Image). z.charge) w.image, stored_charge done (after_reads m h));
   others = λ p o n.
       (let P : ℕ → Type 0 = λ x. x ≡ p → ⊥ in
-      let b : All P (tree.written ws) = front_of P (tree.written ws) left (subst (All P) (sym t) n) in
-      let c : All P (tree.written done) = front_of P (tree.written done) (tree.written rest) (subst (All P) (ap tree.written e ∙ written_append done rest) b) in
+      let b : AllByRecursion P (tree.written ws) = front_of P (tree.written ws) left (subst (AllByRecursion P) (sym t) n) in
+      let c : AllByRecursion P (tree.written done) = front_of P (tree.written done) (tree.written rest) (subst (AllByRecursion P) (ap tree.written e ∙ written_append done rest) b) in
       ap (λ (z : Image). at z p) w.image ∙ stays done (after_reads m h) p w.accepts o c);
 }
 
@@ -65,7 +65,7 @@ misread_alone m m' l p a free f (refused d x e s k r i) = read_alone m m' d free
 misread_alone m m' l p a free f (broken d q v r e s k b i) = read_alone m m' (suc d) free i
 
 -- writes that break off where every page is there
-all_next : (P : ℕ → Type 0) (done rest : List Write) (next : Write) → All P (tree.written (done ++ (next ∷ rest))) → P next.page
+all_next : (P : ℕ → Type 0) (done rest : List Write) (next : Write) → AllByRecursion P (tree.written (done ++ (next ∷ rest))) → P next.page
 all_next P [] rest next t = t.0
 all_next P (w ∷ done) rest next t = all_next P done rest next t.1
 
@@ -77,11 +77,11 @@ pub record OnlyShort (ws : List Write) (m : Image) (f : Fault) (m' : Image) : Ty
   pub told : f ≡ Unwritten access
   pub runs : WritesRunOut ws m access m'
 
-pub only_short : (ws : List Write) (m m' : Image) (f : Fault) → All (Has m) (tree.written ws) → Unwrites ws m f m' → OnlyShort ws m f m'
+pub only_short : (ws : List Write) (m m' : Image) (f : Fault) → AllByRecursion (Has m) (tree.written ws) → Unwrites ws m f m' → OnlyShort ws m f m'
 only_short ws m m' f all u =
     let c = u.cut in
     let x = u.access in
-    let h : Has m c.next.page = all_next (Has m) c.done c.rest c.next (subst (λ (z : List Write). All (Has m) (tree.written z)) c.writes all) in
+    let h : Has m c.next.page = all_next (Has m) c.done c.rest c.next (subst (λ (z : List Write). AllByRecursion (Has m) (tree.written z)) c.writes all) in
     let l : length m'.pages ≡ length m.pages = ap (λ (z : Image). length z.pages) c.began.image ∙ stored_length c.done m in
     let o = only_charge m' x.page x.fault (omega (arith, h.0, c.page), omega (arith, h.1, c.page, l)) c.refused in
     record {

@@ -1,6 +1,6 @@
 -- Withdraw from the root, and where a state is kept.
 use Rattle.std.proofs.Common.{◌≡◌, ℕ, zero, suc, ◌-◌, ◌≤◌, List, [], ◌∷◌, ◌++◌, length, take, drop, None, Ok, Err, Option, Result, sym, refl, ap, ◌∙◌, subst, arith}
-use Rattle.std.specs.List.{AllByRecursion as All}
+use Rattle.std.specs.List.{AllByRecursion}
 use Rattle.std.proofs.ByRecursion.{All-take, All-weaker}
 use Rattle.pages.specs.Image.{Image, Has}
 use Rattle.layout.specs.declared.entry.Entry.{Entry}
@@ -105,10 +105,10 @@ copies_kept m m' limit total top s a g k t =
 
 all_there : (m : Image) (limit total top : ℕ) (s : State) (a : ℕ) → Kept (contents m) limit total top s → limit ≤ length m.pages
     → Copies (contents m) limit total (total - 1) top s a (withdraw_takes s.tree s.height a) (withdraw_step s a)
-    → All (Has (after_reads m s.height)) (tree.written (withdraw_step s a).writes)
+    → AllByRecursion (Has (after_reads m s.height)) (tree.written (withdraw_step s a).writes)
 all_there m limit total top s a k l c =
     let In : ℕ → Type 0 = λ p. (2 ≤ p) × (p ≤ limit) in
-    subst (λ (x : List ℕ). All (Has (after_reads m s.height)) x) (sym c.wrote)
+    subst (λ (x : List ℕ). AllByRecursion (Has (after_reads m s.height)) x) (sym c.wrote)
     (All-weaker In (Has (after_reads m s.height)) (λ p h. (omega (arith, h.0), omega (arith, h.1)))
     (take (withdraw_takes s.tree s.height a) s.free)
     (All-take In (withdraw_takes s.tree s.height a) s.free (range_law (contents m) limit total top s k).1))

@@ -3,7 +3,7 @@ use Rattle.std.proofs.Common.{◌≡◌, ℕ, zero, suc, ◌+◌, ◌<◌, ◌�
 use mathlib.Core.HLevel.{hedberg, Σ_prop, →_prop, ⊥_prop}
 use native.Mathlib.Decide.{ℕ_discrete}
 use native.Mathlib.Bridge.{le_prop}
-use Rattle.std.specs.List.{AllByRecursion as All}
+use Rattle.std.specs.List.{AllByRecursion}
 use Rattle.std.proofs.ByRecursion.{All-weaker}
 use Rattle.std.proofs.lemmas.Bool.{cases_eq, eq-eqb, ne_eqb}
 use Rattle.std.proofs.lemmas.List.{get_or-replicate, length-set}
@@ -38,7 +38,7 @@ absent_zero (x ∷ xs) w = (λ e. (let z = w.0.0 in omega arith), absent_zero xs
 pub fewer : (xs : List ℕ) → Within xs → Distinct xs → length xs < 1026
 fewer xs w d =
     let a : Distinct (0 ∷ xs) = (absent_zero xs w, d) in
-    let b : All (λ x. x < 1026) (0 ∷ xs) = (omega arith, All-weaker (λ x. (1 ≤ x) × (x ≤ 1025)) (λ x. x < 1026) (λ x h. (let z = h.1 in omega arith)) xs w) in
+    let b : AllByRecursion (λ x. x < 1026) (0 ∷ xs) = (omega arith, All-weaker (λ x. (1 ≤ x) × (x ≤ 1025)) (λ x. x < 1026) (λ x h. (let z = h.1 in omega arith)) xs w) in
     pigeons 1026 (0 ∷ xs) a b
 
 walks : (n : ℕ) (next : List ℕ) (f : ℕ) (xs : List ℕ) → Linked next f xs → Within xs → length xs < n → walk n next f ≡ xs

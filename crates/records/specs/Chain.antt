@@ -1,10 +1,10 @@
 -- Numbers that are chained by a table: the table has at each number the one after it, and 0 ends the chain.
 use Rattle.std.specs.Prelude.{◌≡◌, ℕ, zero, suc, ◌≤◌, Bool, true, false, cond, not, List, [], ◌∷◌, Some, None, filter, Option, ◌==◌, ◌≢◌, slice_index, slice_index_or}
-use Rattle.std.specs.List.{range_with_len, AllByRecursion as All}
+use Rattle.std.specs.List.{range_with_len, AllByRecursion}
 
 -- k is none of these numbers
 abbrev pub Absent : ℕ → List ℕ → Type 0
-Absent k xs = All (λ x. x ≢ k) xs
+Absent k xs = AllByRecursion (λ x. x ≢ k) xs
 
 -- numbers without repetition
 abbrev pub Distinct : List ℕ → Type 0
@@ -13,7 +13,7 @@ Distinct (x ∷ xs) = Absent x xs × Distinct xs
 
 -- numbers from 1 to 1,025
 abbrev pub Within : List ℕ → Type 0
-Within xs = All (λ x. (1 ≤ x) × (x ≤ 1025)) xs
+Within xs = AllByRecursion (λ x. (1 ≤ x) × (x ≤ 1025)) xs
 
 -- from front on the table leads over these numbers to its end
 abbrev pub Linked : List ℕ → ℕ → List ℕ → Type 0

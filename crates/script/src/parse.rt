@@ -3,7 +3,7 @@ ghost use Rattle.std.specs.Prelude.{◌≡◌, Some, None, MatchResult};
 ghost use Rattle.script.specs.Grammar.{QuestionIs, FirstIs};
 ghost use Rattle.script.specs.Numbers.{NumberIs};
 ghost use Rattle.script.specs.Words.{texts, Numbers, NoNumbers, Written, NoPoint, Ends, NoBox};
-ghost use Rattle.script.specs.declared.reason.Reason.TheVariants.{Number as isNumber};
+ghost use Rattle.script.specs.declared.reason.Reason.TheVariants.{Number as is_number};
 
 use crate::number::number;
 use crate::point::point_of;
@@ -16,7 +16,7 @@ use std::alloc::Global;
 
 // A number up to the limit.
 pub fn parse_number(word: &str, limit: u64) -> Result<u64, Reason>
-    ensures { MatchResult result (λ v. NumberIs word.now limit (Some v)) (λ e. (e ≡ isNumber) × NumberIs word.now limit None) }
+    ensures { MatchResult result (λ v. NumberIs word.now limit (Some v)) (λ e. (e ≡ is_number) × NumberIs word.now limit None) }
 {
     match number(word, limit) {
         Some(v) => Ok(v),

@@ -1,6 +1,6 @@
 // Why a line has no other answer: it is refused by a number, or not understood, or memory is short.
 ghost use Rattle.std.specs.Prelude.{◌≡◌};
-ghost use Rattle.script.specs.declared.trouble.Trouble.TheVariants.{Unclear as isUnclear, Memory as isMemory};
+ghost use Rattle.script.specs.declared.trouble.Trouble.TheVariants.{Unclear as is_unclear, Memory as is_memory};
 
 use crate::reason::Reason;
 use orders::refusal::Refusal;
@@ -14,7 +14,7 @@ pub enum Trouble {
 }
 
 impl From<Reason> for Trouble {
-    ghost from_gives = { λ e r. r ≡ isUnclear e };
+    ghost from_gives = { λ e r. r ≡ is_unclear e };
 
     fn from(e: Reason) -> Trouble {
         Trouble::Unclear(e)
@@ -22,7 +22,7 @@ impl From<Reason> for Trouble {
 }
 
 impl From<AllocError> for Trouble {
-    ghost from_gives = { λ _ r. r ≡ isMemory };
+    ghost from_gives = { λ _ r. r ≡ is_memory };
 
     fn from(_e: AllocError) -> Trouble {
         Trouble::Memory
@@ -30,7 +30,7 @@ impl From<AllocError> for Trouble {
 }
 
 impl<T: Drop> From<AllocFailed<T>> for Trouble {
-    ghost from_gives = { λ _ r. r ≡ isMemory };
+    ghost from_gives = { λ _ r. r ≡ is_memory };
 
     fn from(_e: AllocFailed<T>) -> Trouble {
         Trouble::Memory

@@ -1,6 +1,6 @@
 -- The walk of a search under one page: its exits, and a turn over the children.
 use Rattle.std.proofs.Common.{◌≡◌, ℕ, zero, suc, ◌+◌, ◌-◌, ◌*◌, ◌^◌, ◌<◌, ◌≤◌, Bool, ◌⊎◌, List, [], ◌∷◌, ◌++◌, map, length, get_or, take, set, Some, None, Ok, Err, Option, sym, refl, ap, ◌∙◌, subst, inl, inr, mul-le-mul, arith, pow_mono}
-use Rattle.std.specs.List.{AllByRecursion as All}
+use Rattle.std.specs.List.{AllByRecursion}
 use Rattle.std.proofs.lemmas.List.{map-append, length-append}
 use Rattle.std.proofs.lemmas.Bool.{cases_order, cases_lt}
 use Rattle.layout.specs.declared.entry.Entry.{Entry}
@@ -94,7 +94,7 @@ low_inner p f zero l h = h
 low_inner p f (suc zero) l h = none_below f h
 low_inner p f (suc (suc k)) l h = omega arith
 
-own_page : (R : ℕ → Type 0) (n : Node) → All R (pages n) → R (number n)
+own_page : (R : ℕ → Type 0) (n : Node) → AllByRecursion R (pages n) → R (number n)
 own_page R (leaf p es) h = h.0
 own_page R (inner p f) h = h.0
 
@@ -178,7 +178,7 @@ pub record Turned (o : Order) (lo hi : List ℕ) (start : ℕ) (m : Image) (belo
   pub same : m'.pages ≡ m.pages
   pub paid : m'.charge + reads ≡ m.charge
   pub laid : Laid memory used memory' used'
-  pub walks : (f : Forest) → LevelIn f below → StandsIn f (contents m) → All (λ p. (2 ≤ p) × (p ≤ length m.pages)) (pages_in f) → child_entries f ≡ es →
+  pub walks : (f : Forest) → LevelIn f below → StandsIn f (contents m) → AllByRecursion (λ p. (2 ≤ p) × (p ≤ length m.pages)) (pages_in f) → child_entries f ≡ es →
       (P : ℕ → Bool) → Tests o lo hi start P → (ask : ℕ → Option ℕ) → Asks o lo hi ask →
       (found : List Entry) × Agrees (outcome found (ending_of x) reads) nx (walk_children ask P (take j (children f end)) (Some a)) m.charge (length memory - used)
       × Holds o found memory used memory' used'
@@ -224,7 +224,7 @@ module _ (o : Order) (lo hi : List ℕ) (start : ℕ) (m : Image) (below end a :
           value,
           c.4 below lv,
           subst (λ (q : Contents). Stands kid.node q) (sym (same_contents m m₁ i.same)) (c.5 (contents m) st),
-          subst (λ k. All (λ p. (2 ≤ p) × (p ≤ k)) (pages kid.node)) (ap length (sym i.same)) (c.6 (length m.pages) rg),
+          subst (λ k. AllByRecursion (λ p. (2 ≤ p) × (p ≤ k)) (pages kid.node)) (ap length (sym i.same)) (c.6 (length m.pages) rg),
         ) in
         let d = w.walks kid.node stands P t ask k in
         let charge : m₁.charge ≡ m.charge - reads = omega (arith, i.paid) in
@@ -265,7 +265,7 @@ module _ (o : Order) (lo hi : List ℕ) (start : ℕ) (m : Image) (page level en
           let up : level ≡ suc (level - 1) = omega arith in
           let lv : LevelIn f (level - 1) = subst (λ q. Level (inner p f) q) up s.1 in
           let st : StandsIn f (contents m₁) = subst (λ (q : Contents). StandsIn f q) (sym (same_contents m m₁ still)) s.2.1 in
-          let rg : All (λ p. (2 ≤ p) × (p ≤ length m₁.pages)) (pages_in f) = subst (λ q. All (λ p. (2 ≤ p) × (p ≤ q)) (pages_in f)) (ap length (sym still)) s.3.1 in
+          let rg : AllByRecursion (λ p. (2 ≤ p) × (p ≤ length m₁.pages)) (pages_in f) = subst (λ q. AllByRecursion (λ p. (2 ≤ p) × (p ≤ q)) (pages_in f)) (ap length (sym still)) s.3.1 in
           let ce : child_entries f ≡ es = sym (ap (λ c. c.entries) s.2.0) ∙ said o lo hi start m page level end next memory used a u m₁ old new r h es le p s.0 in
           let b = i.walks f lv st rg ce P t ask k in
           let whole : Agrees (outcome b.0 (ending_of x) reads) nx (walk_in ask P f end (Some a)) m₁.charge (length memory - used) =

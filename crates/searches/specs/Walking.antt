@@ -1,6 +1,6 @@
 -- What the walk of a search under one page does, in code.
 use Rattle.std.specs.Prelude.{◌≡◌, ℕ, ◌+◌, ◌-◌, ◌<◌, ◌≤◌, Bool, List, length, Some, None, Option}
-use Rattle.std.specs.List.{AllByRecursion as All}
+use Rattle.std.specs.List.{AllByRecursion}
 use Rattle.layout.specs.declared.entry.Entry.{Entry}
 use Rattle.orders.specs.Orders.{Order, FirstIs}
 use Rattle.pages.specs.Image.{Image}
@@ -24,7 +24,7 @@ Asks o lo hi ask = (b : ℕ) → FirstIs o lo hi b (ask b)
 
 -- a tree stands at this page and level of the memory, and the store has its pages
 abbrev pub StandsAs : Image → ℕ → ℕ → Node → Type 0
-StandsAs m page level n = (number n ≡ page) × Level n level × Stands n (contents m) × All (λ p. (2 ≤ p) × (p ≤ length m.pages)) (pages n)
+StandsAs m page level n = (number n ≡ page) × Level n level × Stands n (contents m) × AllByRecursion (λ p. (2 ≤ p) × (p ≤ length m.pages)) (pages n)
 
 -- No page is changed, each read takes one charge, and the lent memory is changed by finds alone. Where a tree stands, by every test of what is wanted and every way to ask:
 -- what came of it is what the theory's walk comes to, with the charge and the room that there are, and the events found are in the tray.

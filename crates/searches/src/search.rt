@@ -1,6 +1,6 @@
 // The search of a box in a tree of pages.
 ghost use Rattle.std.specs.Prelude.{◌≡◌};
-ghost use Rattle.searches.specs.Searching.{nothing as None-found, Searches};
+ghost use Rattle.searches.specs.Searching.{nothing as none_found, Searches};
 
 use crate::find::{Ending, Find, Found};
 use crate::walking::walk_page;
@@ -10,7 +10,7 @@ use pages::store::PageStore;
 use records::tray::Tray;
 
 fn nothing() -> Found
-    ensures { result ≡ None-found }
+    ensures { result ≡ none_found }
 {
     Found {
         count: 0,

@@ -1,6 +1,6 @@
 -- What a slot store keeps of its slots and tables, and how a write moves it.
 use Rattle.std.proofs.Common.{◌≡◌, ℕ, zero, suc, ◌+◌, ◌-◌, ◌^◌, ◌<◌, ◌≤◌, true, false, cond, eqb, ◌≢◌, List, [], ◌∷◌, length, get_or, take, drop, set, replicate, sym, refl, ap, ◌∙◌, subst, inl, inr, mod-eq_of_lt, arith, get_or-set_other, get_or-set_same}
-use Rattle.std.specs.List.{AllByRecursion as All}
+use Rattle.std.specs.List.{AllByRecursion}
 use Rattle.std.proofs.lemmas.Nat.{mod-pow-add}
 use Rattle.std.proofs.lemmas.Bool.{cases_eq, eq-eqb, ne_eqb}
 use Rattle.std.proofs.lemmas.List.{length-set, length-take, get_or-take, length-drop}
@@ -21,8 +21,8 @@ pub record Sound (slots : List (List ℕ)) (home free : List ℕ) (n : ℕ) : Ty
   pub homed : (q : ℕ) → 1 ≤ q → (get_or home q 0 ≡ 0 → ⊥) → number (slot_at slots (get_or home q 0)) ≡ q
   pub reach : (q : ℕ) → get_or home q 0 ≤ n + 1
   pub listed : (i : ℕ) → i ≤ n → number (get_or slots i []) ≡ 0 → Absent (i + 1) free → ⊥
-  pub vacant : All (λ s. number (slot_at slots s) ≡ 0) free
-  pub bound : All (λ s. s ≤ n + 1) free
+  pub vacant : AllByRecursion (λ s. number (slot_at slots s) ≡ 0) free
+  pub bound : AllByRecursion (λ s. s ≤ n + 1) free
 
 -- the page q by its slot in `home`
 abbrev pub by_home : List (List ℕ) → List ℕ → ℕ → List ℕ
@@ -85,11 +85,11 @@ module _ (slots : List (List ℕ)) (home free : List ℕ) (n : ℕ) (S : Sound s
       ]
 
 -- the fact P at each of some numbers, where it may fail at another alone
-all_other : (P Q : ℕ → Type 0) (k : ℕ) (xs : List ℕ) → ((x : ℕ) → (x ≡ k → ⊥) → P x → Q x) → Absent k xs → All P xs → All Q xs
+all_other : (P Q : ℕ → Type 0) (k : ℕ) (xs : List ℕ) → ((x : ℕ) → (x ≡ k → ⊥) → P x → Q x) → Absent k xs → AllByRecursion P xs → AllByRecursion Q xs
 all_other P Q k [] f a h = tt
 all_other P Q k (x ∷ xs) f a h = (f x a.0 h.0, all_other P Q k xs f a.1 h.1)
 
-all_same : (P Q : ℕ → Type 0) (xs : List ℕ) → ((x : ℕ) → P x → Q x) → All P xs → All Q xs
+all_same : (P Q : ℕ → Type 0) (xs : List ℕ) → ((x : ℕ) → P x → Q x) → AllByRecursion P xs → AllByRecursion Q xs
 all_same P Q [] f h = tt
 all_same P Q (x ∷ xs) f h = (f x h.0, all_same P Q xs f h.1)
 
@@ -192,7 +192,7 @@ swapped slots home free n a b S = record {
 
 -- the front free slot receives a page that has none
 module _ (slots : List (List ℕ)) (home rest : List ℕ) (n s p : ℕ) (x bytes : List ℕ) (S : Sound slots home (s ∷ rest) n) (xe : x ≡ filled p bytes) (lb : length bytes ≡ 128)
-    (s1 : 1 ≤ s) (r1 : All (λ k. 1 ≤ k) rest) (a : Absent s rest) (p1 : 1 ≤ p) (pn : p ≤ n) (none : get_or home p 0 ≡ 0) where
+    (s1 : 1 ≤ s) (r1 : AllByRecursion (λ k. 1 ≤ k) rest) (a : Absent s rest) (p1 : 1 ≤ p) (pn : p ≤ n) (none : get_or home p 0 ≡ 0) where
   x_long : length x ≡ 130
   x_long = rw xe (omega arith)
 
@@ -237,7 +237,7 @@ module _ (slots : List (List ℕ)) (home rest : List ℕ) (n s p : ℕ) (x bytes
             ap (λ (k : ℕ). number (slot_at (set slots (s - 1) x) k)) (home_o q d) ∙ ap number (stays q q1 z') ∙ S.homed q q1 z')
       ]
 
-  still_vacant : (ks : List ℕ) → All (λ k. 1 ≤ k) ks → Absent s ks → All (λ k. number (slot_at slots k) ≡ 0) ks → All (λ k. number (slot_at (set slots (s - 1) x) k) ≡ 0) ks
+  still_vacant : (ks : List ℕ) → AllByRecursion (λ k. 1 ≤ k) ks → Absent s ks → AllByRecursion (λ k. number (slot_at slots k) ≡ 0) ks → AllByRecursion (λ k. number (slot_at (set slots (s - 1) x) k) ≡ 0) ks
   still_vacant [] o b v = tt
   still_vacant (k ∷ ks) o b v =
       let k1 = o.0 in let d : k - 1 ≢ s - 1 = λ e. b.0 (omega arith) in

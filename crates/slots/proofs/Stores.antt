@@ -1,7 +1,7 @@
 -- A slot store by what it keeps: its making and its write.
 use Rattle.std.proofs.Common.{◌≡◌, ℕ, zero, suc, ◌+◌, ◌-◌, ◌<◌, ◌≤◌, min, max, Bool, true, false, cond, not, eqb, ◌≢◌, List, [], ◌∷◌, length, get_or, take, drop, set, replicate, Some, Ok, filter, sym, refl, ap, ◌∙◌, subst, inl, inr, arith}
 use Rattle.std.proofs.lemmas.List.{length-drop, take_all, length-set, get_or-set_other}
-use Rattle.std.specs.List.{range_with_len, AllByRecursion as All}
+use Rattle.std.specs.List.{range_with_len, AllByRecursion}
 use Rattle.std.proofs.ByRecursion.{All-get_or, All-from_get_or, all_kept_by, kept_by_passes}
 use Rattle.std.proofs.lemmas.Bool.{cases_eq, eq-eqb, ne_eqb, eqb-true}
 use Rattle.records.specs.Chain.{Absent, Within, unmarked, Takes, Puts}
@@ -107,11 +107,11 @@ kept_has p a (suc n) s l g t m =
       | inr d ↦ kept_has p (a + 1) n s (omega arith) (omega arith) t (kept_rest (p a) s a (filter p (range_with_len (a + 1) n)) m)
     ]
 
-counting_high : (high a n : ℕ) → a + n ≤ high + 1 → All (λ k. k ≤ high) (range_with_len a n)
+counting_high : (high a n : ℕ) → a + n ≤ high + 1 → AllByRecursion (λ k. k ≤ high) (range_with_len a n)
 counting_high high a zero h = tt
 counting_high high a (suc n) h = (omega arith, counting_high high (a + 1) n (omega arith))
 
-zero_all : (slots : List (List ℕ)) (xs : List ℕ) → All (λ s. eqb (number (slot_at slots s)) 0 ≡ true) xs → All (λ s. number (slot_at slots s) ≡ 0) xs
+zero_all : (slots : List (List ℕ)) (xs : List ℕ) → AllByRecursion (λ s. eqb (number (slot_at slots s)) 0 ≡ true) xs → AllByRecursion (λ s. number (slot_at slots s) ≡ 0) xs
 zero_all slots [] h = tt
 zero_all slots (x ∷ xs) h = (eqb-true (number (slot_at slots x)) 0 h.0, zero_all slots xs h.1)
 
@@ -142,8 +142,8 @@ module _ (slots : List (List ℕ)) (n : ℕ) (home : List ℕ) (used : List Bool
     listed = λ i h z m. kept_has test 1 (n + 1) (i + 1) (omega arith) (omega arith)
         (let u : i + 1 - 1 ≡ i = omega arith in let v : number (slot_at slots (i + 1)) ≡ 0 = ap (λ (j : ℕ). number (get_or slots j [])) u ∙ z in eq-eqb (number (slot_at slots (i + 1))) 0 v)
         (subst (Absent (i + 1)) rising m);
-    vacant = subst (All (λ s. number (slot_at slots s) ≡ 0)) (sym rising) (zero_all slots (vacant slots n) (kept_by_passes test (range_with_len 1 (n + 1))));
-    bound = subst (All (λ s. s ≤ n + 1)) (sym rising) (all_kept_by test (λ s. s ≤ n + 1) (range_with_len 1 (n + 1)) (counting_high (n + 1) 1 (n + 1) (omega arith)));
+    vacant = subst (AllByRecursion (λ s. number (slot_at slots s) ≡ 0)) (sym rising) (zero_all slots (vacant slots n) (kept_by_passes test (range_with_len 1 (n + 1))));
+    bound = subst (AllByRecursion (λ s. s ≤ n + 1)) (sym rising) (all_kept_by test (λ s. s ≤ n + 1) (range_with_len 1 (n + 1)) (counting_high (n + 1) 1 (n + 1) (omega arith)));
   }
 
   pub makes_yes : Makes slots n n free
@@ -156,7 +156,7 @@ makes_no slots n free f e = record { yes = λ a. absurd (f a); no = λ _. (refl,
 pub never_none : (b : SlotStore) → 0 < b.pages → numbers b.free ≡ [] → ⊥
 never_none b z e = never_full b.row.slots.now b.home b.pages (subst (λ (xs : List ℕ). Sound b.row.slots.now b.home xs b.pages) e (sound b z))
 
-all_absent : (P : ℕ → Type 0) (k : ℕ) (xs : List ℕ) → (P k → ⊥) → All P xs → Absent k xs
+all_absent : (P : ℕ → Type 0) (k : ℕ) (xs : List ℕ) → (P k → ⊥) → AllByRecursion P xs → Absent k xs
 all_absent P k [] f h = tt
 all_absent P k (x ∷ xs) f h = (λ e. f (subst P e h.0), all_absent P k xs f h.1)
 

@@ -1,6 +1,6 @@
 -- A write of a slot store, by whether the page was in a slot before.
 use Rattle.std.proofs.Common.{◌≡◌, ℕ, zero, suc, ◌+◌, ◌-◌, ◌<◌, ◌≤◌, true, false, cond, eqb, ◌≢◌, List, [], ◌∷◌, map, length, get_or, take, drop, set, sym, ap, ◌∙◌, subst, inl, inr, arith}
-use Rattle.std.specs.List.{range_with_len, AllByRecursion as All}
+use Rattle.std.specs.List.{range_with_len, AllByRecursion}
 use Rattle.std.proofs.lemmas.Bool.{cases_eq, eq-eqb, ne_eqb}
 use Rattle.std.proofs.lemmas.List.FromFn.{length-map-range_with_len, get_or-map-range_with_len}
 use Rattle.std.proofs.lemmas.List.{length-set, set-set, set_comm, drop-set-lt, get_or-set_same, get_or-set_other, ext_get_or}
@@ -37,7 +37,7 @@ distinct_map f a zero h = tt
 distinct_map f a (suc n) h =
     (absent_map f (f a) (a + 1) n (λ j l g. h a j (omega arith) (omega arith) (omega arith)), distinct_map f (a + 1) n (λ i j l g k. h i j (omega arith) g (omega arith)))
 
-all_map : (f : ℕ → ℕ) (P : ℕ → Type 0) (a n : ℕ) → ((i : ℕ) → a ≤ i → i < a + n → P (f i)) → All P (map f (range_with_len a n))
+all_map : (f : ℕ → ℕ) (P : ℕ → Type 0) (a n : ℕ) → ((i : ℕ) → a ≤ i → i < a + n → P (f i)) → AllByRecursion P (map f (range_with_len a n))
 all_map f P a zero h = tt
 all_map f P a (suc n) h = (h a (omega arith) (omega arith), all_map f P (a + 1) n (λ i l g. h i (omega arith) (omega arith)))
 
@@ -51,7 +51,7 @@ never_full slots home n S =
     let e' : number (get_or slots j []) ≡ number (get_or slots i []) = omega arith in
     let pi = S.placed i (omega arith) ui in let pj = S.placed j (omega arith) uj in
     let h : get_or home (number (get_or slots j [])) 0 ≡ get_or home (number (get_or slots i [])) 0 = ap (λ (k : ℕ). get_or home k 0) e' in omega arith)) in
-    let b : All (λ k. k < n) (map f (range_with_len 0 (n + 1))) =
+    let b : AllByRecursion (λ k. k < n) (map f (range_with_len 0 (n + 1))) =
     all_map f (λ k. k < n) 0 (n + 1) (λ i l g. (let u = used i (omega arith) in let w = S.low i (omega arith) in omega arith)) in
     let c = pigeons n (map f (range_with_len 0 (n + 1))) d b in
     omega (arith, length-map-range_with_len f 0 (n + 1))
@@ -66,7 +66,7 @@ pub record Wrote (slots : List (List ℕ)) (free : List ℕ) (n s p : ℕ) (byte
 
 module _ (slots : List (List ℕ)) (home rest : List ℕ) (n s p : ℕ) (x bytes : List ℕ) (S : Sound slots home (s ∷ rest) n) (xe : x ≡ filled p bytes) (lb : length bytes ≡ 128)
     (w : Within (s ∷ rest)) (a : Absent s rest) (p1 : 1 ≤ p) (pn : p ≤ n) where
-  positive : (ks : List ℕ) → Within ks → All (λ k. 1 ≤ k) ks
+  positive : (ks : List ℕ) → Within ks → AllByRecursion (λ k. 1 ≤ k) ks
   positive [] h = tt
   positive (k ∷ ks) h = (h.0.0, positive ks h.1)
 
@@ -113,7 +113,7 @@ module _ (slots : List (List ℕ)) (home rest : List ℕ) (n s p : ℕ) (x bytes
     absent : Absent s (old ∷ rest)
     absent = (λ e. differ (ap (λ (k : ℕ). k - 1) (sym e)), a)
 
-    positives : All (λ k. 1 ≤ k) (old ∷ rest)
+    positives : AllByRecursion (λ k. 1 ≤ k) (old ∷ rest)
     positives = (omega arith, positive rest w.1)
 
     slots_swap : set (set slots (old - 1) y) (s - 1) x ≡ set (set slots (s - 1) x) (old - 1) y

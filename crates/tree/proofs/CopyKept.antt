@@ -1,6 +1,6 @@
 -- The laws of a kept state: what a whole step does, with the totals, the pages and the memory.
 use Rattle.std.proofs.Common.{◌≡◌, ℕ, suc, ◌+◌, ◌-◌, ◌≤◌, List, [], ◌∷◌, ◌++◌, length, drop, sym, refl, ap, ◌∙◌, subst, append-nil, arith, length-append, length-drop}
-use Rattle.std.specs.List.{AllByRecursion as All}
+use Rattle.std.specs.List.{AllByRecursion}
 use Rattle.layout.specs.declared.entry.Entry.{Entry}
 use Rattle.layout.specs.Content.{LeafKeys}
 use Rattle.tree.specs.Tree.{Node, Held, Contents, pages, counts, count_at}
@@ -122,7 +122,7 @@ lodge_law m limit total top s a z in_top enough =
     )
 
 -- the events rise, and so each has a count
-rising_some : (lo hi : ℕ) (es : List Entry) → LeafKeys lo hi es → All (λ e. 1 ≤ e.value) es
+rising_some : (lo hi : ℕ) (es : List Entry) → LeafKeys lo hi es → AllByRecursion (λ e. 1 ≤ e.value) es
 rising_some lo hi [] r = tt
 rising_some lo hi (e ∷ es) r = (r.2, rising_some (suc e.key) hi es r.3)
 
@@ -198,7 +198,7 @@ empty_law m limit top = record { sound = (refl, refl); shared = λ p. omega arit
 
 pub range_law : RangeLaw
 range_law m limit total top s z =
-    let usable-only : (ps : List ℕ) → ((p : ℕ) → times p ps ≤ times p (usable limit)) → All (λ p. (2 ≤ p) × (p ≤ limit)) ps = λ ps h.
+    let usable-only : (ps : List ℕ) → ((p : ℕ) → times p ps ≤ times p (usable limit)) → AllByRecursion (λ p. (2 ≤ p) × (p ≤ limit)) ps = λ ps h.
     CopyShares.all_of_times (λ (p : ℕ). (2 ≤ p) × (p ≤ limit)) ps
     (λ p i. let w = CopyShares.upward_within p 2 (limit - 1) (omega (arith, h p)) in (w.0, omega (arith, w.0, w.1))) in (
       usable-only (pages_of s.tree) (λ p. omega (arith, z.shared p)),

@@ -1,6 +1,6 @@
 -- Lists of page numbers: as many of each number, none twice, all of them usable.
 use Rattle.std.proofs.Common.{◌≡◌, ℕ, zero, suc, ◌+◌, ◌-◌, ◌<◌, ◌≤◌, cond, eqb, List, [], ◌∷◌, length, sym, refl, ap, ◌∙◌, subst, arith}
-use Rattle.std.specs.List.{AllByRecursion as All}
+use Rattle.std.specs.List.{AllByRecursion}
 use Rattle.tree.specs.Tree.{Absent, Apart}
 use Rattle.tree.specs.CopyWrites.{weigh, mark, times}
 use Rattle.tree.specs.CopyLaws.{upward, usable, unused}
@@ -53,11 +53,11 @@ upward_length k zero = refl
 upward_length k (suc n) = ap suc (upward_length (suc k) n)
 
 -- what holds of each number in a list, by counting
-pub all_of_times : (P : ℕ → Type 0) (xs : List ℕ) → ((p : ℕ) → 1 ≤ times p xs → P p) → All P xs
+pub all_of_times : (P : ℕ → Type 0) (xs : List ℕ) → ((p : ℕ) → 1 ≤ times p xs → P p) → AllByRecursion P xs
 all_of_times P [] h = tt
 all_of_times P (x ∷ xs) h = (h x (omega (arith, mark_same x)), all_of_times P xs (λ p i. h p (omega arith)))
 
-pub times_of_all : (P : ℕ → Type 0) (xs : List ℕ) (p : ℕ) → All P xs → 1 ≤ times p xs → P p
+pub times_of_all : (P : ℕ → Type 0) (xs : List ℕ) (p : ℕ) → AllByRecursion P xs → 1 ≤ times p xs → P p
 times_of_all P [] p a h = absurd (omega arith)
 times_of_all P (x ∷ xs) p a h =
     by_eq (λ (z : ℕ). 1 ≤ z + times p xs → P p) x p 1 0
@@ -106,7 +106,7 @@ unused_times ps (x ∷ xs) p =
     i)
 
 -- pages within 2 to limit, none twice, and the unused ones of 2 to limit
-pub unused_shares : (limit : ℕ) (ps : List ℕ) → All (λ p. (2 ≤ p) × (p ≤ limit)) ps → Apart ps →
+pub unused_shares : (limit : ℕ) (ps : List ℕ) → AllByRecursion (λ p. (2 ≤ p) × (p ≤ limit)) ps → Apart ps →
     (p : ℕ) → times p ps + times p (unused ps (usable limit)) ≡ times p (usable limit)
 unused_shares limit ps range once p =
     by_eq (λ (z : ℕ). times p (unused ps (usable limit)) ≡ z → times p ps + times p (unused ps (usable limit)) ≡ times p (usable limit)) (times p ps) 0 _ _

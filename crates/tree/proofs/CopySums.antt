@@ -1,6 +1,6 @@
 -- Sums and bounds of counts.
 use Rattle.std.proofs.Common.{◌≡◌, ℕ, suc, ◌+◌, ◌*◌, ◌<◌, ◌≤◌, List, [], ◌∷◌, ◌++◌, length, sym, refl, arith, length-append}
-use Rattle.std.specs.List.{AllByRecursion as All}
+use Rattle.std.specs.List.{AllByRecursion}
 use Rattle.layout.specs.declared.entry.Entry.{Entry}
 use Rattle.tree.specs.Tree.{Filled, FilledIn, Forest, Node, count_at, counts, events, events_in, pages, pages_in}
 use Rattle.tree.specs.Tree.Node.{inner, leaf}
@@ -19,7 +19,7 @@ enter_sum a (e ∷ es) =
     (λ gt. omega (arith, enter_sum a es))
 
 -- one less, where there is one
-pub remove_sum : (a : ℕ) (es : List Entry) → All (λ e. 1 ≤ e.value) es → 1 ≤ count_at es a → suc (counts (remove a es)) ≡ counts es
+pub remove_sum : (a : ℕ) (es : List Entry) → AllByRecursion (λ e. 1 ≤ e.value) es → 1 ≤ count_at es a → suc (counts (remove a es)) ≡ counts es
 remove_sum a [] p h = absurd (omega arith)
 remove_sum a (e ∷ es) p h =
     let P : List Entry → Type 0 = λ z. suc (counts z) ≡ e.value + counts es in

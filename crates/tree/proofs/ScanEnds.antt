@@ -1,6 +1,6 @@
 -- Each turn marks one more page, and there are no more than limit pages: a scan ends within its fuel.
 use Rattle.std.proofs.Common.{◌≡◌, ℕ, zero, suc, ◌+◌, ◌-◌, ◌<◌, ◌≤◌, List, [], ◌∷◌, ◌++◌, length, refl, arith}
-use Rattle.std.specs.List.{AllByRecursion as All}
+use Rattle.std.specs.List.{AllByRecursion}
 use Rattle.tree.specs.Tree.{Contents, Apart}
 use Rattle.tree.specs.Scan.{Visit, uncharged, unfinished, Turn, breaks, unpaid, onward, turn, follow, scan}
 use Rattle.tree.specs.ScanRules.{Admitted}
@@ -10,7 +10,7 @@ use Rattle.tree.proofs.ScanMarks.{InRange, few_marks}
 
 module _ (m : Contents) (limit : ℕ) where
   -- the sum of fuel and marks is the same at each turn
-  pub ends : (fuel charge : ℕ) (marks : List ℕ) (stack : List Visit) (sum : ℕ) → Apart marks → All (InRange limit) marks → limit < fuel + length marks →
+  pub ends : (fuel charge : ℕ) (marks : List ℕ) (stack : List Visit) (sum : ℕ) → Apart marks → AllByRecursion (InRange limit) marks → limit < fuel + length marks →
       scan fuel m limit charge marks stack sum ≡ unfinished → ⊥
   unfolding scan
   ends zero charge marks stack sum a r h e = omega (arith, few_marks limit marks a r)
@@ -25,7 +25,7 @@ module _ (m : Contents) (limit : ℕ) where
       go ih (onward n vs) q d = ih n vs (turn_forth m limit charge marks v n vs q).admitted d
 
   -- and with the charge in place of the fuel: a charge for every page is enough
-  pub suffices : (fuel charge : ℕ) (marks : List ℕ) (stack : List Visit) (sum p level : ℕ) → Apart marks → All (InRange limit) marks → limit ≤ charge + length marks →
+  pub suffices : (fuel charge : ℕ) (marks : List ℕ) (stack : List Visit) (sum p level : ℕ) → Apart marks → AllByRecursion (InRange limit) marks → limit ≤ charge + length marks →
       scan fuel m limit charge marks stack sum ≡ uncharged p level → ⊥
   unfolding scan
   suffices zero charge marks stack sum p level a r h e = let z : ◌≡◌ {A = ℕ} 0 1 = cc in omega arith

@@ -1,6 +1,6 @@
 -- The walk with a charge and room asks for a first address no more often than it read leaves, besides the first.
 use Rattle.std.proofs.Common.{◌≡◌, ℕ, zero, suc, ◌+◌, ◌-◌, ◌≤◌, Bool, true, false, cond, leb, ◌⊎◌, List, [], ◌∷◌, ◌++◌, length, take, Some, None, filter, Option, sym, refl, ap, ◌∙◌, subst, inl, inr, suc-add, zero-add, arith, length-append}
-use Rattle.std.specs.List.{AllByRecursion as All}
+use Rattle.std.specs.List.{AllByRecursion}
 use Rattle.std.proofs.lemmas.List.Elements.{filter-append}
 use Rattle.std.proofs.lemmas.List.{take-append-le}
 use Rattle.tree.specs.Tree.{Node, Forest}
@@ -91,7 +91,7 @@ module _ (is_IsLeaf : ℕ → Bool) where
 
   module _ (ask : ℕ → Option ℕ) (P : ℕ → Bool) where
     mutual
-      few_node : (n : Node) (lo hi : ℕ) (next : Option ℕ) (charge room : ℕ) → All (λ (r : Region). is_IsLeaf r.page ≡ true) (leaves n lo hi) →
+      few_node : (n : Node) (lo hi : ℕ) (next : Option ℕ) (charge room : ℕ) → AllByRecursion (λ (r : Region). is_IsLeaf r.page ≡ true) (leaves n lo hi) →
           Few (limited ask P n hi next charge room) 0 (walk ask P n hi next)
       few_node (leaf page es) lo hi next charge room l =
           let w : Walked = record { steps = find_steps P es; next = ask (suc hi); asks = 1 } in
@@ -100,7 +100,7 @@ module _ (is_IsLeaf : ℕ → Bool) where
       few_node (inner page ks) lo hi next charge room l =
           reach_few page hi 0 (λ c. limited_in ask P ks hi next c room) (walk_in ask P ks hi next) charge (inl refl) (omega arith) (λ c. few_forest ks lo hi next c room l) next
 
-      few_forest : (ks : Forest) (lo hi : ℕ) (next : Option ℕ) (charge room : ℕ) → All (λ (r : Region). is_IsLeaf r.page ≡ true) (leaves_in ks lo hi) →
+      few_forest : (ks : Forest) (lo hi : ℕ) (next : Option ℕ) (charge room : ℕ) → AllByRecursion (λ (r : Region). is_IsLeaf r.page ≡ true) (leaves_in ks lo hi) →
           Few (limited_in ask P ks hi next charge room) 0 (walk_in ask P ks hi next)
       few_forest (last n) lo hi next charge room l = few_node n lo hi next charge room l
       few_forest (more n key ks) lo hi next charge room l =

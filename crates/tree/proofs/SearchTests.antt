@@ -1,6 +1,6 @@
 -- What the tests of addresses tell, and what a filter keeps.
 use Rattle.std.proofs.Common.{◌≡◌, ℕ, ◌≤◌, Bool, true, false, cond, ◌&&◌, leb, List, [], ◌∷◌, ◌++◌, length, Decides, filter, refl, arith, le-leb, leb-true}
-use Rattle.std.specs.List.{AllByRecursion as All}
+use Rattle.std.specs.List.{AllByRecursion}
 use Rattle.tree.specs.SearchSteps.{from}
 
 both_true : (s t : Bool) → (s && t) ≡ true → (s ≡ true) × (t ≡ true)
@@ -55,6 +55,6 @@ decided_false true d h = absurd (h (d.0 refl))
 decided_false false d h = refl
 
 -- what holds of each element of two lists together
-pub all_split : {X : Type 0} (Q : X → Type 0) (xs ys : List X) → All Q (xs ++ ys) → All Q xs × All Q ys
+pub all_split : {X : Type 0} (Q : X → Type 0) (xs ys : List X) → AllByRecursion Q (xs ++ ys) → AllByRecursion Q xs × AllByRecursion Q ys
 all_split Q [] ys a = (tt, a)
 all_split Q (x ∷ xs) ys a = let h = all_split Q xs ys a.1 in ((a.0, h.0), h.1)

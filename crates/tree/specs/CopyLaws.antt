@@ -1,6 +1,6 @@
 -- What is claimed of lodge and withdraw on a whole tree with its free list.
 use Rattle.std.specs.Prelude.{◌≡◌, ℕ, zero, suc, ◌+◌, ◌-◌, ◌<◌, ◌≤◌, cond, List, [], ◌∷◌, ◌++◌, length, take, drop, ◌==◌, nat_le}
-use Rattle.std.specs.List.{AllByRecursion as All}
+use Rattle.std.specs.List.{AllByRecursion}
 use Rattle.layout.specs.declared.entry.Entry.{Entry}
 use Rattle.layout.specs.Content.{LeafKeys}
 use Rattle.tree.specs.Tree.{Node, Forest, Held, Contents, Sound, Level, Stands, Apart, number, pages, events, counts, count_at, size}
@@ -163,7 +163,7 @@ SortedLaw = (m : Contents) (limit total top : ℕ) (s : State) → Kept m limit 
 
 -- no count above the greatest
 abbrev pub Within : ℕ → List Entry → Type 0
-Within greatest es = All (λ e. e.value ≤ greatest) es
+Within greatest es = AllByRecursion (λ e. e.value ≤ greatest) es
 
 -- a lodge where the count is below the greatest keeps all counts within it, and so does every withdrawal
 abbrev pub GreatestLaw : Type 0
@@ -192,7 +192,7 @@ NumberLaw = (m : Contents) (limit total top : ℕ) (s : State) → Kept m limit 
 
 -- a tree stands in every memory that agrees with one where it stands on the tree's pages
 abbrev pub FrameLaw : Type 0
-FrameLaw = (n : Node) (m m' : Contents) → All (λ p. m' p ≡ m p) (pages n) → Stands n m → Stands n m'
+FrameLaw = (n : Node) (m m' : Contents) → AllByRecursion (λ p. m' p ≡ m p) (pages n) → Stands n m → Stands n m'
 
 -- so what is kept over a memory is kept over every other that agrees with it on the pages 2 to limit
 abbrev pub AgreeLaw : Type 0
@@ -218,7 +218,7 @@ EmptyLaw = (m : Contents) (limit top : ℕ) → Kept m limit 0 top (record { tre
 -- tree pages and free pages are all in 2 to limit, and no free page stands twice
 abbrev pub RangeLaw : Type 0
 RangeLaw = (m : Contents) (limit total top : ℕ) (s : State) → Kept m limit total top s →
-    All (λ p. (2 ≤ p) × (p ≤ limit)) (pages_of s.tree) × All (λ p. (2 ≤ p) × (p ≤ limit)) s.free × Apart s.free
+    AllByRecursion (λ p. (2 ≤ p) × (p ≤ limit)) (pages_of s.tree) × AllByRecursion (λ p. (2 ≤ p) × (p ≤ limit)) s.free × Apart s.free
 
 -- those of a list that are not among the pages ps, in their order
 abbrev pub unused : List ℕ → List ℕ → List ℕ

@@ -1,7 +1,7 @@
 -- What code that walks the tree for a search uses: the walk of one page, the loop over its children, the loop over a leaf's entries.
 -- `ask` gives first addresses, P tests addresses, `next` is the next address; the region of the page ends at hi.
 use Rattle.std.specs.Prelude.{◌≡◌, ℕ, suc, ◌+◌, ◌-◌, ◌<◌, ◌≤◌, Bool, true, false, List, [], ◌∷◌, ◌++◌, length, get_or, take, Some, Option, ◌≢◌, slice_index_or}
-use Rattle.std.specs.List.{AllByRecursion as All}
+use Rattle.std.specs.List.{AllByRecursion}
 use Rattle.layout.specs.declared.entry.Entry.{Entry}
 use Rattle.tree.specs.Tree.{Node, Forest, number, pages, pages_in, child_entries, Level, LevelIn, Contents, Stands, StandsIn}
 use Rattle.tree.specs.SearchSteps.{find_steps}
@@ -40,7 +40,7 @@ ChildLaw = (f : Forest) (hi j : ℕ) (d : Child) (e : Entry) → j < length (chi
     (j + 1 ≡ length (child_entries f) → (get_or (children f hi) j d).end ≡ hi) ×
     ((h : ℕ) → LevelIn f h → Level (get_or (children f hi) j d).node h) ×
     ((m : Contents) → StandsIn f m → Stands (get_or (children f hi) j d).node m) ×
-    ((limit : ℕ) → All (λ p. (2 ≤ p) × (p ≤ limit)) (pages_in f) → All (λ p. (2 ≤ p) × (p ≤ limit)) (pages (get_or (children f hi) j d).node))
+    ((limit : ℕ) → AllByRecursion (λ p. (2 ≤ p) × (p ≤ limit)) (pages_in f) → AllByRecursion (λ p. (2 ≤ p) × (p ≤ limit)) (pages (get_or (children f hi) j d).node))
 
 -- the loop over the children: its beginning, a turn, in which child j is walked after all before it ended done, its end, and a return before the end
 abbrev pub LoopBeginLaw : Type 0

@@ -1,7 +1,7 @@
 -- The theorems of the search, each a statement that a function's contract names.
 -- n is a tree in order whose region is lo to hi; `inside` is the box; `start` is the address from which it is searched.
 use Rattle.std.specs.Prelude.{◌≡◌, ℕ, ◌+◌, ◌-◌, ◌<◌, ◌≤◌, Bool, true, List, ◌∷◌, ◌++◌, map, length, drop, Some, Decides, filter, Option}
-use Rattle.std.specs.List.{ContainsAt as Has, AllByRecursion as All}
+use Rattle.std.specs.List.{ContainsAt as Has, AllByRecursion}
 use Rattle.layout.specs.declared.entry.Entry.{Entry}
 use Rattle.layout.specs.Content.{LeafKeys}
 use Rattle.tree.specs.Tree.{Node, pages, Ordered, Level, Apart}
@@ -149,6 +149,6 @@ abbrev pub LimitedLaw : Type 0
 LimitedLaw = (inside : ℕ → Bool) (start : ℕ) (ask : ℕ → Option ℕ) (n : Node) (top : ℕ) → Ordered n 0 top →
     ((b : ℕ) → Least (ask b) (Hit inside b top)) → (charge room : ℕ) →
     ((limited ask (from inside start) n top (ask start) charge room).out ≡ search_run inside start n 0 top charge room) ×
-    ((is_IsLeaf : ℕ → Bool) → All (λ r. is_IsLeaf r.page ≡ true) (leaves n 0 top) →
+    ((is_IsLeaf : ℕ → Bool) → AllByRecursion (λ r. is_IsLeaf r.page ≡ true) (leaves n 0 top) →
     (limited ask (from inside start) n top (ask start) charge room).asks
     ≤ passing_reads is_IsLeaf (search_run inside start n 0 top charge room).reads (search_steps inside start n 0 top))

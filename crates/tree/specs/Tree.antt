@@ -1,6 +1,6 @@
 -- The abstract tree: pages with their numbers and what stands under them, and what makes a tree sound.
 use Rattle.std.specs.Prelude.{◌≡◌, ℕ, zero, suc, ◌+◌, ◌<◌, ◌≤◌, min, cond, List, [], ◌∷◌, ◌++◌, length, ◌==◌, ◌≢◌}
-use Rattle.std.specs.List.{AllByRecursion as All}
+use Rattle.std.specs.List.{AllByRecursion}
 use Rattle.layout.specs.declared.entry.Entry.{Entry}
 use Rattle.layout.specs.Content.{Content, page, Sized, LeafKeys}
 
@@ -127,7 +127,7 @@ abbrev mutual
 
 -- k does not stand in xs; no number stands twice in xs
 abbrev pub Absent : ℕ → List ℕ → Type 0
-Absent k xs = All (λ x. x ≢ k) xs
+Absent k xs = AllByRecursion (λ x. x ≢ k) xs
 
 abbrev pub Apart : List ℕ → Type 0
 Apart [] = Unit {0}
@@ -141,7 +141,7 @@ limit_of n = min n 1024
 -- A each page number is 2 to limit and is reached once; B to E as the pages show them; F counts sum to the total, and 6 pages are free.
 pub record Sound (m : Contents) (limit height root total top : ℕ) (t : Node) : Type 0 where
   pub root_is : number t ≡ root
-  pub range : All (λ p. (2 ≤ p) × (p ≤ limit)) (pages t)
+  pub range : AllByRecursion (λ p. (2 ≤ p) × (p ≤ limit)) (pages t)
   pub once : Apart (pages t)
   pub levels : Level t height
   pub stands : Stands t m

@@ -2,7 +2,7 @@
 use Rattle.std.proofs.Common.{◌≡◌, ℕ, suc, ◌-◌, ◌≤◌, cond, List, [], ◌++◌, Ok, Err, sym, refl, ap, ◌∙◌, subst, arith}
 use Rattle.std.proofs.lemmas.Bool.{cond-true, cond-false}
 use Rattle.layout.specs.declared.rules.PageRule.{PageRule}
-use Rattle.layout.specs.declared.rules.PageRule.TheVariants.{B as pageB, C as pageC, D as pageD, E as pageE}
+use Rattle.layout.specs.declared.rules.PageRule.TheVariants.{B as page_B, C as page_C, D as page_D, E as page_E}
 use Rattle.layout.specs.Content.{Content, Own, Filled, LeafKeys, InnerKeys}
 use Rattle.layout.specs.Rules.{Keys, Checks}
 use Rattle.tree.specs.declared.visit.Visit.{Visit}
@@ -35,14 +35,14 @@ module _ (c : Content) (v : Visit) where
 
   broken : (r : PageRule) → 1 ≤ v.level → Checks v.page v.level v.lo v.hi c (Err r) → judged c v ≡ breaks (rule_of_lem r)
   unfolding judged
-  broken pageB l h =
+  broken page_B l h =
       cond-false (own c v) (cond (filled c) opened_up (breaks C)) (breaks B) (decided_false (own c v) (own_decides c v) (λ o. omega (arith, h o)))
-  broken pageC l h = owned h.0 ∙ cond-false (filled c) opened_up (breaks C) (decided_false (filled c) (filled_decides c) h.2)
-  broken pageD l h =
+  broken page_C l h = owned h.0 ∙ cond-false (filled c) opened_up (breaks C) (decided_false (filled c) (filled_decides c) h.2)
+  broken page_D l h =
       full h.0 h.2 ∙ at_leaf h.1
       ∙ cond-false (leaf_keys v.lo v.hi c.entries) (onward (counts c.entries) []) (breaks D)
       (decided_false (leaf_keys v.lo v.hi c.entries) (leaf_keys_decides v.lo v.hi c.entries) h.3)
-  broken pageE l h =
+  broken page_E l h =
       let k = v.level - 2 in
       let e : v.level ≡ suc (suc k) = omega (arith, h.1) in
       full h.0 h.2 ∙ at_inner k e

@@ -1,10 +1,10 @@
 -- What a turn of the scan's loop does: the outcome of what is left to do stays the same.
 use Rattle.std.proofs.Common.{◌≡◌, ℕ, zero, suc, ◌+◌, ◌-◌, ◌*◌, ◌<◌, ◌≤◌, Bool, true, false, not, eqb, ◌≢◌, List, [], ◌∷◌, ◌++◌, reverse, length, get_or, take, set, replicate, Some, None, Ok, Err, Decides, Result, sym, refl, ap, ◌∙◌, subst, inl, inr, arith}
-use Rattle.std.specs.List.{AllByRecursion as All}
+use Rattle.std.specs.List.{AllByRecursion}
 use Rattle.std.proofs.lemmas.List.{get_or-set_same, get_or-set_other, length-set, length-replicate, length-reverse, length-take-le}
 use Rattle.std.proofs.lemmas.Bool.{cases_eq, eq-eqb, ne_eqb, cond-true, cond-false, both_ways, not-false}
 use Rattle.layout.specs.declared.rules.PageRule.{PageRule}
-use Rattle.layout.specs.declared.rules.PageRule.TheVariants.{B as pageB, C as pageC, D as pageD, E as pageE}
+use Rattle.layout.specs.declared.rules.PageRule.TheVariants.{B as page_B, C as page_C, D as page_D, E as page_E}
 use Rattle.records.specs.Tray.{Lays, Lifts}
 use Rattle.pages.specs.Image.{Image, spent, granted}
 use Rattle.tree.specs.declared.visit.Visit.{Visit}
@@ -57,7 +57,7 @@ none_put memory used height root top e z = ap (λ n. reverse (take n memory)) e 
 pub record Scanning (m : Contents) (limit : ℕ) (o : Outcome) (charge : ℕ) (marks : List Bool) (stack : List Visit) (sum pages : ℕ) (ms : List ℕ) : Type 0 where
   pub same : scan (suc limit - length ms) m limit charge ms stack sum ≡ o
   pub once : Apart ms
-  pub range : All (InRange limit) ms
+  pub range : AllByRecursion (InRange limit) ms
   pub marked : Marked marks ms
   pub long : length marks ≡ 1026
   pub fits : StackFits 55 stack
@@ -148,10 +148,10 @@ module _ {m : Contents} {limit : ℕ} {o : Outcome} {charge : ℕ} {marks : List
       paid t p j = let s : charge ≡ suc (charge - 1) = omega arith in admitted ∙ ap (λ c. charged c (judged (m v.page) v)) s ∙ j
 
       after_read : (x : PageRule) → left_at (rule_of_lem x) charge ≡ charge - 1
-      after_read pageB = refl
-      after_read pageC = refl
-      after_read pageD = refl
-      after_read pageE = refl
+      after_read page_B = refl
+      after_read page_C = refl
+      after_read page_D = refl
+      after_read page_E = refl
 
       pub broken : (r : Rule) (x : PageRule) → r ≡ rule_of_lem x → 0 < charge → judged (m v.page) v ≡ breaks r → o ≡ refused v.page r (charge - 1)
       broken r x e p j =

@@ -2,7 +2,7 @@
 use Rattle.std.specs.Prelude.{◌≡◌, ℕ, ◌<◌, ◌≤◌, List, ◌++◌, Ok, Err, Result}
 use Rattle.layout.specs.Content.{Content}
 use Rattle.layout.specs.declared.rules.PageRule.{PageRule}
-use Rattle.layout.specs.declared.rules.PageRule.TheVariants.{B as pageB, C as pageC, D as pageD, E as pageE}
+use Rattle.layout.specs.declared.rules.PageRule.TheVariants.{B as page_B, C as page_C, D as page_D, E as page_E}
 use Rattle.pages.specs.Image.{Image, Lacks, spent}
 use Rattle.pages.specs.declared.fault.StoreFault.TheVariants.{Uncharged}
 use Rattle.tree.specs.declared.visit.Visit.{Visit}
@@ -15,10 +15,10 @@ use Rattle.faults.specs.declared.fault.Fault.{Fault}
 use Rattle.faults.specs.declared.fault.Fault.TheVariants.{Shut, Outside, Work, Absent, Unread, NoHeader, OtherOrder, Unsound, NoEvent, CountFull, HeightFull, Room, Unwritten}
 
 abbrev pub rule_of_lem : PageRule → Rule
-rule_of_lem pageB = B
-rule_of_lem pageC = C
-rule_of_lem pageD = D
-rule_of_lem pageE = E
+rule_of_lem page_B = B
+rule_of_lem page_C = C
+rule_of_lem page_D = D
+rule_of_lem page_E = E
 
 -- A page that says c, asked for a visit with `stack` to come after it. It keeps its rules: it adds n (ten counts of 65,535 at most), and its
 -- visits come before the others. It breaks one of B to E: nothing changes.

@@ -1,5 +1,5 @@
 use Rattle.std.proofs.Common.{◌≡◌, length, take, refl, ap, ◌∙◌, arith}
-use Rattle.std.specs.List.{AllByRecursion as All}
+use Rattle.std.specs.List.{AllByRecursion}
 use Rattle.std.proofs.lemmas.List.{take_all}
 use Rattle.std.proofs.ByRecursion.{All-more}
 use Rattle.layout.specs.Bytes.{begun_bytes, page_bytes, Fit}
@@ -17,5 +17,5 @@ pub returns : goal.returns
 returns c =
     let all : take c.loop-i.i c.args.entries.now ≡ c.args.entries.now = take_all c.loop-i.i c.args.entries.now c.loop-i-test.false in
     let p : c.loop-i.page ≡ page_bytes c.args.level c.args.number c.args.entries.now = c.loop-i.invariant.0 ∙ ap (begun_bytes c.args.level (length c.args.entries.now) c.args.number) all in
-    let f : All Fit c.args.entries.now = rw all at c.loop-i.invariant.1 in
+    let f : AllByRecursion Fit c.args.entries.now = rw all at c.loop-i.invariant.1 in
     holds c.args.level c.args.number c.args.entries.now _ c.ranges.number.fits c.requires f p
