@@ -21,13 +21,12 @@ TOKEN = re.compile(WORD)
 USE = re.compile(r"\buse Rattle\.([^\s;{]+?)(?:\.?\{([^}]*)\}| as (\S+)|(?=;|[ \t]*$))", re.M)
 HEAD = re.compile(r"^(?:(?:abbrev|unfoldable|pub|mutual) )*((?:data|record) (?:pub )?)?(" + WORD + r")(?= )")
 FIELD = re.compile(r"^\s+(?:pub )?((?:" + WORD + r" )+):")
-# Names that would fall together with another when respelled, and four that port.py gave a capital although they are no facts.
+# Names that would fall together with another when respelled, and three that port.py gave a capital although they are no facts.
 GIVEN = {
     "Leaf-place": "FindsLeafPlace",
     "Child-place": "FindsChildPlace",
     "drop-child": "drop_child_lem",
     "rule-of": "rule_of_lem",
-    "If-accepted": "if_accepted",
     "Holds-after": "holds_after",
     "No-page": "no_page",
     "None-found": "none_found",

@@ -23,19 +23,19 @@ OthersStay o c v y = (x : List ℕ) → InSpaceOf o x → (x ≢ y) → held_in 
 abbrev pub AllStay : Order → Content → Content → Type 0
 AllStay o c v = (x : List ℕ) → held_in o v x ≡ held_in o c x
 
-abbrev pub if_accepted : Answer → Type 0 → Type 0 → Type 0
-if_accepted accepted Yes No = Yes
-if_accepted (refused n values) Yes No = No
-if_accepted (counted n) Yes No = No
-if_accepted (found xs n ending) Yes No = No
+abbrev pub IfAccepted : Answer → Type 0 → Type 0 → Type 0
+IfAccepted accepted Yes No = Yes
+IfAccepted (refused n values) Yes No = No
+IfAccepted (counted n) Yes No = No
+IfAccepted (found xs n ending) Yes No = No
 
 -- The counts, from what the memory held (c) to what it holds (v). An accepted format empties every point; an accepted lodge gives its
 -- point, which is in the space, one event more; an accepted withdrawal takes one, and there was one. No other point changes. Every
 -- other call, and every call that is refused, changes no count.
 abbrev pub Counts : Order → Content → Content → Call → Answer → Type 0
-Counts o c v formats a = if_accepted a ((x : List ℕ) → held_in o v x ≡ 0) (AllStay o c v)
-Counts o c v (lodges y) a = if_accepted a (InSpaceOf o y × (held_in o v y ≡ suc (held_in o c y)) × OthersStay o c v y) (AllStay o c v)
-Counts o c v (withdraws y) a = if_accepted a (InSpaceOf o y × (suc (held_in o v y) ≡ held_in o c y) × OthersStay o c v y) (AllStay o c v)
+Counts o c v formats a = IfAccepted a ((x : List ℕ) → held_in o v x ≡ 0) (AllStay o c v)
+Counts o c v (lodges y) a = IfAccepted a (InSpaceOf o y × (held_in o v y ≡ suc (held_in o c y)) × OthersStay o c v y) (AllStay o c v)
+Counts o c v (withdraws y) a = IfAccepted a (InSpaceOf o y × (suc (held_in o v y) ≡ held_in o c y) × OthersStay o c v y) (AllStay o c v)
 Counts o c v (tallies y) a = AllStay o c v
 Counts o c v (searches lo hi start room) a = AllStay o c v
 Counts o c v (opens w) a = AllStay o c v
