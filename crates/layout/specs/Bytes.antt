@@ -47,7 +47,7 @@ number_of bs = number_at 2 bs 2
 abbrev pub entries_of : List ℕ → List Entry
 entries_of bs = map (entry_at bs) (range_with_len 0 (min (count_of bs) 10))
 
--- A page is clean when it is the encoding of what it says; `Clean-law` says this of its zeros.
+-- A page is clean when it is the encoding of what it says; `CleanLaw` says this of its zeros.
 unfoldable pub clean_of : List ℕ → Bool
 clean_of bs = bytes_eq bs (page_bytes (level_of bs) (number_of bs) (entries_of bs))
 

@@ -51,7 +51,7 @@ pub record Kept (m : Contents) (limit total top : ℕ) (s : State) : Type 0 wher
   pub sound : SoundOf m limit s.height total top s.tree
   pub shared : (p : ℕ) → times p (pages_of s.tree) + times p s.free ≡ times p (usable limit)
 
--- How many pages lodge takes. `page-splits` is 1 where the page splits, `path-splits` counts the pages of the path that do.
+-- How many pages lodge takes. `page_splits` is 1 where the page splits, `path_splits` counts the pages of the path that do.
 abbrev pub over_ten : ℕ → ℕ
 over_ten n = cond (nat_le n 10) 0 1
 
@@ -78,7 +78,7 @@ abbrev pub lodge_takes : Held Node → ℕ → ℕ → ℕ
 lodge_takes none h a = 1
 lodge_takes (held n) h a = h + path_splits n a + page_splits n a
 
--- How many pages withdraw takes: the path without the pages that drop out. `page-drops` is 1 where the page is left empty.
+-- How many pages withdraw takes: the path without the pages that drop out. `page_drops` is 1 where the page is left empty.
 abbrev pub empty : List Entry → ℕ
 empty [] = 1
 empty (e ∷ es) = 0

@@ -1,5 +1,5 @@
 -- The two operations on a memory of pages, with no tree in sight: by recursion on the level, total for every memory.
--- This is the form for contracts of code that works on pages; `Memory-law` says that where a tree stands it is the tree's operation.
+-- This is the form for contracts of code that works on pages; `MemoryLaw` says that where a tree stands it is the tree's operation.
 use Rattle.std.specs.Prelude.{◌≡◌, ℕ, zero, suc, ◌+◌, cond, List, [], ◌∷◌, ◌++◌, length, nat_le}
 use Rattle.layout.specs.declared.entry.Entry.{Entry}
 use Rattle.layout.specs.Content.{page}
