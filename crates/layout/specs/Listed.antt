@@ -6,7 +6,7 @@ use Rattle.layout.specs.declared.list.EntryList.{EntryList}
 abbrev pub entries : EntryList → List Entry
 entries l = take l.len l.items
 
--- what `get_or` gives past the end
+-- what stands past the end
 abbrev pub blank : Entry
 blank = record { key = 0; value = 0 }
 

@@ -30,36 +30,36 @@ take_past : {X : Type 0} (xs ys : List X) (k : ℕ) → take (length xs + k) (xs
 take_past [] ys k = ap (λ j. take j ys) (zero-add k)
 take_past (x ∷ xs) ys k = ap (λ j. take j (x ∷ (xs ++ ys))) (suc-add (length xs) k) ∙ ap (λ zs. x ∷ zs) (take_past xs ys k)
 
-module _ (is_IsLeaf : ℕ → Bool) where
+module _ (is_leaf : ℕ → Bool) where
   -- steps behind others: the reads of the first, all made, and some of the second; or some of the first
-  passing_both : (xs ys : List Step) (j k : ℕ) → j ≡ read_count xs → passing_reads is_IsLeaf (j + k) (xs ++ ys) ≡ passing_reads is_IsLeaf j xs + passing_reads is_IsLeaf k ys
+  passing_both : (xs ys : List Step) (j k : ℕ) → j ≡ read_count xs → passing_reads is_leaf (j + k) (xs ++ ys) ≡ passing_reads is_leaf j xs + passing_reads is_leaf k ys
   passing_both xs ys j k e =
       let ps = pages_read xs in
       let qs = pages_read ys in
-      rw (e, pages_append xs ys, take_past ps qs k, filter-append is_IsLeaf ps (take k qs), length-append (filter is_IsLeaf ps) (filter is_IsLeaf (take k qs)))
-      (ap (λ zs. length (filter is_IsLeaf zs) + length (filter is_IsLeaf (take k qs))) (sym (take_whole ps)))
+      rw (e, pages_append xs ys, take_past ps qs k, filter-append is_leaf ps (take k qs), length-append (filter is_leaf ps) (filter is_leaf (take k qs)))
+      (ap (λ zs. length (filter is_leaf zs) + length (filter is_leaf (take k qs))) (sym (take_whole ps)))
     where
       take_whole : {X : Type 0} (xs : List X) → take (length xs) xs ≡ xs
       take_whole [] = refl
       take_whole (x ∷ xs) = ap (λ zs. x ∷ zs) (take_whole xs)
 
-  passing_first : (xs ys : List Step) (j : ℕ) → j ≤ read_count xs → passing_reads is_IsLeaf j (xs ++ ys) ≡ passing_reads is_IsLeaf j xs
+  passing_first : (xs ys : List Step) (j : ℕ) → j ≤ read_count xs → passing_reads is_leaf j (xs ++ ys) ≡ passing_reads is_leaf j xs
   passing_first xs ys j h = rw (pages_append xs ys, take-append-le j (pages_read xs) (pages_read ys) h)
 
   -- a read more in front: `own` is 1 only where its page is a leaf
-  own_read : (page a k own : ℕ) (ss : List Step) → (own ≡ 0) ⊎ (is_IsLeaf page ≡ true) → own ≤ 1 → own + passing_reads is_IsLeaf k ss ≤ passing_reads is_IsLeaf (suc k) (reads page a ∷ ss)
-  own_read page a k own ss c h = go (is_IsLeaf page) c
+  own_read : (page a k own : ℕ) (ss : List Step) → (own ≡ 0) ⊎ (is_leaf page ≡ true) → own ≤ 1 → own + passing_reads is_leaf k ss ≤ passing_reads is_leaf (suc k) (reads page a ∷ ss)
+  own_read page a k own ss c h = go (is_leaf page) c
     where
-      go : (t : Bool) → (own ≡ 0) ⊎ (t ≡ true) → own + passing_reads is_IsLeaf k ss ≤ length (cond t (page ∷ filter is_IsLeaf (take k (pages_read ss))) (filter is_IsLeaf (take k (pages_read ss))))
+      go : (t : Bool) → (own ≡ 0) ⊎ (t ≡ true) → own + passing_reads is_leaf k ss ≤ length (cond t (page ∷ filter is_leaf (take k (pages_read ss))) (filter is_leaf (take k (pages_read ss))))
       go true c = omega arith
       go false (inl z) = omega arith
       go false (inr e) = let z : ◌≡◌ {A = ℕ} 0 1 = cc in absurd (omega arith)
 
   -- asks, against the leaves among the pages read
   abbrev Few : Limited → ℕ → Walked → Type 0
-  Few d spare w = d.asks ≤ spare + passing_reads is_IsLeaf d.out.reads w.steps
+  Few d spare w = d.asks ≤ spare + passing_reads is_leaf d.out.reads w.steps
 
-  reach_few : (page hi own : ℕ) (below : ℕ → Limited) (w : Walked) (charge : ℕ) → (own ≡ 0) ⊎ (is_IsLeaf page ≡ true) → own ≤ 1 → ((c : ℕ) → Few (below c) own w) →
+  reach_few : (page hi own : ℕ) (below : ℕ → Limited) (w : Walked) (charge : ℕ) → (own ≡ 0) ⊎ (is_leaf page ≡ true) → own ≤ 1 → ((c : ℕ) → Few (below c) own w) →
       (next : Option ℕ) → Few (reach page hi next charge below) 0 (enter page hi next w)
   reach_few page hi own below w charge l one h None = omega arith
   reach_few page hi own below w charge l one h (Some a) = go (leb a hi) charge
@@ -91,7 +91,7 @@ module _ (is_IsLeaf : ℕ → Bool) where
 
   module _ (ask : ℕ → Option ℕ) (P : ℕ → Bool) where
     mutual
-      few_node : (n : Node) (lo hi : ℕ) (next : Option ℕ) (charge room : ℕ) → AllByRecursion (λ (r : Region). is_IsLeaf r.page ≡ true) (leaves n lo hi) →
+      few_node : (n : Node) (lo hi : ℕ) (next : Option ℕ) (charge room : ℕ) → AllByRecursion (λ (r : Region). is_leaf r.page ≡ true) (leaves n lo hi) →
           Few (limited ask P n hi next charge room) 0 (walk ask P n hi next)
       few_node (leaf page es) lo hi next charge room l =
           let w : Walked = record { steps = find_steps P es; next = ask (suc hi); asks = 1 } in
@@ -100,12 +100,12 @@ module _ (is_IsLeaf : ℕ → Bool) where
       few_node (inner page ks) lo hi next charge room l =
           reach_few page hi 0 (λ c. limited_in ask P ks hi next c room) (walk_in ask P ks hi next) charge (inl refl) (omega arith) (λ c. few_forest ks lo hi next c room l) next
 
-      few_forest : (ks : Forest) (lo hi : ℕ) (next : Option ℕ) (charge room : ℕ) → AllByRecursion (λ (r : Region). is_IsLeaf r.page ≡ true) (leaves_in ks lo hi) →
+      few_forest : (ks : Forest) (lo hi : ℕ) (next : Option ℕ) (charge room : ℕ) → AllByRecursion (λ (r : Region). is_leaf r.page ≡ true) (leaves_in ks lo hi) →
           Few (limited_in ask P ks hi next charge room) 0 (walk_in ask P ks hi next)
       few_forest (last n) lo hi next charge room l = few_node n lo hi next charge room l
       few_forest (more n key ks) lo hi next charge room l =
           let d = limited ask P n key next charge room in
-          let both = all_split (λ (r : Region). is_IsLeaf r.page ≡ true) (leaves n lo key) (leaves_in ks (suc key) hi) l in
+          let both = all_split (λ (r : Region). is_leaf r.page ≡ true) (leaves n lo key) (leaves_in ks (suc key) hi) l in
           continue_few d (limited_in ask P ks hi d.next (charge - d.out.reads) (room - length d.out.found)) (walk ask P n key next) (λ nx. walk_in ask P ks hi nx) charge room
           (limited_node ask P n key next charge room) (few_node n lo key next charge room both.0)
           (few_forest ks (suc key) hi d.next (charge - d.out.reads) (room - length d.out.found) both.1) d.out.ending refl
@@ -116,9 +116,9 @@ limited_law inside start ask n top o answers charge room =
     let same = (walk_law inside start ask n top o answers).0 in
     let out = (limited_node ask P n top (ask start) charge room).outcome_is ∙ ap (λ ss. run ss charge room) same in (
       out,
-      λ is_IsLeaf l.
-          let few = few_node is_IsLeaf ask P n 0 top (ask start) charge room l in
-          let moved = ap (λ (k : ℕ). passing_reads is_IsLeaf k (walk ask P n top (ask start)).steps) (ap (λ x. x.reads) out)
-          ∙ ap (passing_reads is_IsLeaf (run (search_steps inside start n 0 top) charge room).reads) same in
+      λ is_leaf l.
+          let few = few_node is_leaf ask P n 0 top (ask start) charge room l in
+          let moved = ap (λ (k : ℕ). passing_reads is_leaf k (walk ask P n top (ask start)).steps) (ap (λ x. x.reads) out)
+          ∙ ap (passing_reads is_leaf (run (search_steps inside start n 0 top) charge room).reads) same in
           omega (arith, few, moved),
     )

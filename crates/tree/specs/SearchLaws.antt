@@ -149,6 +149,6 @@ abbrev pub LimitedLaw : Type 0
 LimitedLaw = (inside : ℕ → Bool) (start : ℕ) (ask : ℕ → Option ℕ) (n : Node) (top : ℕ) → Ordered n 0 top →
     ((b : ℕ) → Least (ask b) (Hit inside b top)) → (charge room : ℕ) →
     ((limited ask (from inside start) n top (ask start) charge room).out ≡ search_run inside start n 0 top charge room) ×
-    ((is_IsLeaf : ℕ → Bool) → AllByRecursion (λ r. is_IsLeaf r.page ≡ true) (leaves n 0 top) →
+    ((is_leaf : ℕ → Bool) → AllByRecursion (λ r. is_leaf r.page ≡ true) (leaves n 0 top) →
     (limited ask (from inside start) n top (ask start) charge room).asks
-    ≤ passing_reads is_IsLeaf (search_run inside start n 0 top charge room).reads (search_steps inside start n 0 top))
+    ≤ passing_reads is_leaf (search_run inside start n 0 top charge room).reads (search_steps inside start n 0 top))
