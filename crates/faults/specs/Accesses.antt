@@ -3,17 +3,22 @@ use Rattle.std.specs.Prelude.{◌≡◌, ℕ, ◌-◌, List, [], Ok, Err, Result
 use Rattle.pages.specs.Image.{Image, Reads, Writes}
 use Rattle.layout.specs.Bytes.{content_of}
 use Rattle.tree.specs.Tree.{Contents}
-use Rattle.faults.specs.declared.fault.ReadRefused.{ReadRefused}
-use Rattle.faults.specs.declared.fault.WriteRefused.{WriteRefused}
+use Rattle.pages.specs.declared.fault.StoreFault.{StoreFault}
+use Rattle.faults.specs.declared.fault.Access.{Access}
+use Rattle.faults.specs.declared.fault.Fault.{Fault}
+use Rattle.faults.specs.Refusals.{unread, unwritten}
 
 -- what each page of a memory says as a tree page
 abbrev pub contents : Image → Contents
 contents m = λ p. content_of (slice_index_or m.pages (p - 1) [])
 
-abbrev pub Fetches : Image → ℕ → ℕ → List ℕ → Result (Unit {0}) ReadRefused → Image → List ℕ → Type 0
-Fetches m p level old (Ok u) m' new = Reads m p old (Ok u) m' new
-Fetches m p level old (Err e) m' new = (e.access.page ≡ p) × (e.access.level ≡ level) × Reads m p old (Err e.access.fault) m' new
+abbrev pub access : ℕ → ℕ → StoreFault → Access
+access page level fault = record { page = page; level = level; fault = fault }
 
-abbrev pub Stores : Image → ℕ → ℕ → List ℕ → Result (Unit {0}) WriteRefused → Image → Type 0
-Stores m p level from (Ok u) m' = Writes m p from (Ok u) m'
-Stores m p level from (Err e) m' = (e.access.page ≡ p) × (e.access.level ≡ level) × Writes m p from (Err e.access.fault) m'
+abbrev pub Fetches : Image → ℕ → ℕ → List ℕ → Result (Unit {0}) Fault → Image → List ℕ → Type 0
+Fetches m page level old (Ok u) m' new = Reads m page old (Ok u) m' new
+Fetches m page level old (Err f) m' new = (e : StoreFault) × (f ≡ unread (access page level e)) × Reads m page old (Err e) m' new
+
+abbrev pub Stores : Image → ℕ → ℕ → List ℕ → Result (Unit {0}) Fault → Image → Type 0
+Stores m page level from (Ok u) m' = Writes m page from (Ok u) m'
+Stores m page level from (Err f) m' = (e : StoreFault) × (f ≡ unwritten (access page level e)) × Writes m page from (Err e) m'

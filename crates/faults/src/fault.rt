@@ -63,38 +63,24 @@ impl Fault {
             Fault::Unwritten(_) => 17,
         }
     }
-}
 
-// A read that the store refused.
-#[derive(Clone, Copy)]
-pub struct ReadRefused {
-    pub access: Access,
-}
-
-// A write that the store refused.
-#[derive(Clone, Copy)]
-pub struct WriteRefused {
-    pub access: Access,
-}
-
-impl From<ReadRefused> for Fault {
-    ghost from_gives = { λ e r. r ≡ unread e.access };
-
-    fn from(e: ReadRefused) -> Fault {
-        match e.access.fault {
-            StoreFault::Absent => Fault::Absent(e.access),
-            StoreFault::Uncharged => Fault::Unread(e.access),
+    // What a read is refused as: 8 where the page does not exist, 9 where the charge does not carry it.
+    pub fn unread(access: Access) -> Fault
+        ensures { result ≡ unread access }
+    {
+        match access.fault {
+            StoreFault::Absent => Fault::Absent(access),
+            StoreFault::Uncharged => Fault::Unread(access),
         }
     }
-}
 
-impl From<WriteRefused> for Fault {
-    ghost from_gives = { λ e r. r ≡ unwritten e.access };
-
-    fn from(e: WriteRefused) -> Fault {
-        match e.access.fault {
-            StoreFault::Absent => Fault::Absent(e.access),
-            StoreFault::Uncharged => Fault::Unwritten(e.access),
+    // The same of a write: 8 or 17.
+    pub fn unwritten(access: Access) -> Fault
+        ensures { result ≡ unwritten access }
+    {
+        match access.fault {
+            StoreFault::Absent => Fault::Absent(access),
+            StoreFault::Uncharged => Fault::Unwritten(access),
         }
     }
 }
