@@ -2,24 +2,24 @@
 ghost use Rattle.faults.specs.Accesses.{Fetches, Stores};
 
 use crate::fault::{Access, Fault};
-use layout::node::Node;
+use layout::page_ref::PageRef;
 use pages::store::PageStore;
 
-// Fills the lent page with the node's page.
-pub fn fetch<S: PageStore>(store: &mut S, node: Node, into: &mut [u8; 128]) -> Result<(), Fault>
-    ensures { Fetches (S.meaning store.old) node.page node.level into.old result (S.meaning store.new) into.new }
+// Fills the lent page with the page.
+pub fn fetch<S: PageStore>(store: &mut S, at: PageRef, into: &mut [u8; 128]) -> Result<(), Fault>
+    ensures { Fetches (S.meaning store.old) at.page at.level into.old result (S.meaning store.new) into.new }
 {
-    let Node { page, level } = node;
+    let PageRef { page, level } = at;
     store
         .read(page, into)
         .map_err(|fault| Fault::unread(Access { page, level, fault }))
 }
 
-// Replaces the whole of the node's page.
-pub fn put<S: PageStore>(store: &mut S, node: Node, from: &[u8; 128]) -> Result<(), Fault>
-    ensures { Stores (S.meaning store.old) node.page node.level from.now result (S.meaning store.new) }
+// Replaces the whole of the page.
+pub fn put<S: PageStore>(store: &mut S, at: PageRef, from: &[u8; 128]) -> Result<(), Fault>
+    ensures { Stores (S.meaning store.old) at.page at.level from.now result (S.meaning store.new) }
 {
-    let Node { page, level } = node;
+    let PageRef { page, level } = at;
     store
         .write(page, from)
         .map_err(|fault| Fault::unwritten(Access { page, level, fault }))

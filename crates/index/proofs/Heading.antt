@@ -8,9 +8,9 @@ use Rattle.pages.specs.declared.fault.StoreFault.TheVariants.{Absent, Uncharged}
 use Rattle.layout.specs.declared.header.Header.{Header}
 use Rattle.layout.specs.Heads.{header_bytes, Proper}
 use Rattle.orders.specs.Orders.{Order, Lawful, size}
-use Rattle.faults.specs.declared.fault.Access.{Access}
+use Rattle.faults.specs.declared.fault.Fault.{Fault}
 use Rattle.faults.specs.declared.fault.Fault.TheVariants.{OtherOrder}
-use Rattle.faults.specs.Refusals.{unread}
+use Rattle.faults.specs.Accesses.{access, Fetches}
 use Rattle.index.specs.Head.{ReadsHead}
 use Rattle.index.specs.Head.NoHead.{refused, other}
 use Rattle.index.specs.Keeping.{Ours}
@@ -20,8 +20,8 @@ refuses : (m m' : Image) (p : ℕ) (old new : List ℕ) (f : StoreFault) → Rea
 refuses m m' p old new Absent r = (r.0, refl, r.2)
 refuses m m' p old new Uncharged r = (r.0, r.1, refl, r.3)
 
-pub head_refused : (o : Order) (m m' : Image) (x : Access) (old new : List ℕ) → x.page ≡ 1 → x.level ≡ 0 → Reads m 1 old (Err x.fault) m' new → ReadsHead o m (Err (unread x)) m'
-head_refused o m m' x old new page level r = refused x refl page level (refuses m m' 1 old new x.fault r)
+pub head_refused : (o : Order) (m m' : Image) (f : Fault) (old new : List ℕ) → Fetches m 1 0 old (Err f) m' new → ReadsHead o m (Err f) m'
+head_refused o m m' f old new t = refused (access 1 0 t.0) t.1 refl refl (refuses m m' 1 old new t.0 t.2)
 
 pub head_other : (o : Order) (m m' : Image) (old new : List ℕ) (h : Header) → Reads m 1 old (Ok tt) m' new → Proper h → new ≡ header_bytes h → (Ours o h → ⊥) → ReadsHead o m (Err OtherOrder) m'
 head_other o m m' old new h r proper e not_ours =

@@ -8,7 +8,8 @@ use Rattle.orders.specs.Orders.{Order}
 use Rattle.tree.specs.CopyLaws.{usable, upward}
 use Rattle.tree.specs.CopyWrites.{times}
 use Rattle.records.specs.Chain.{unmarked}
-use Rattle.faults.specs.declared.fault.Access.{Access}
+use Rattle.faults.specs.declared.fault.Fault.{Fault}
+use Rattle.faults.specs.Accesses.{Stores}
 use Rattle.faults.specs.Refusals.{unwritten}
 use Rattle.index.specs.Model.{Known, state, refusal, limit}
 use Rattle.index.specs.Model.Answer.{accepted}
@@ -61,12 +62,9 @@ refuses_format o m k bytes Uncharged m' w =
     subst (λ (x : Image). Step o (state m k) (refusal (unwritten (record { page = 1; level = 0; fault = Uncharged }))) (state x k) formats) (sym w.2)
     (record { size = refl; exact = λ c h. record { next = c; kept = h; does = format_uncharged w.0.1 w.1 refl refl refl } })
 
-pub format_refused : (o : Order) (m m' : Image) (k : Known) (bytes : List ℕ) (acc : Access) → acc.page ≡ 1 → acc.level ≡ 0 → Writes m 1 bytes (Err acc.fault) m' →
-    Step o (state m k) (refusal (unwritten acc)) (state m' k) formats
-format_refused o m m' k bytes acc ep el w =
-    subst (λ (p : ℕ). Step o (state m k) (refusal (unwritten (record { page = p; level = acc.level; fault = acc.fault }))) (state m' k) formats) (sym ep)
-    (subst (λ (l : ℕ). Step o (state m k) (refusal (unwritten (record { page = 1; level = l; fault = acc.fault }))) (state m' k) formats) (sym el)
-    (refuses_format o m k bytes acc.fault m' w))
+pub format_refused : (o : Order) (m m' : Image) (k : Known) (bytes : List ℕ) (f : Fault) → Stores m 1 0 bytes (Err f) m' → Step o (state m k) (refusal f) (state m' k) formats
+format_refused o m m' k bytes f t =
+    subst (λ (z : Fault). Step o (state m k) (refusal z) (state m' k) formats) (sym t.1) (refuses_format o m k bytes t.0 m' t.2)
 
 -- with no mark set, every number from a on is free
 pub none_marked : (marks : List Bool) (a n : ℕ) → ((k : ℕ) → get_or marks k false ≡ false) → unmarked marks a n ≡ upward a n

@@ -11,6 +11,7 @@ use crate::index::Index;
 use faults::access::put;
 use faults::fault::Fault;
 use layout::header::{Header, write_header};
+use layout::page_ref::HEADER;
 use orders::order::PointOrder;
 use pages::store::PageStore;
 use records::free::FreeList;
@@ -49,7 +50,7 @@ impl<S: PageStore, O: PointOrder> Index<S, O> {
         };
         let mut page = [0; 128];
         write_header(&mut page, header);
-        put(&mut self.store, 1, 0, &page)?;
+        put(&mut self.store, HEADER, &page)?;
         self.free = FreeList::rising(2, last, &[false; 1026]);
         self.height = 0;
         self.root = 0;

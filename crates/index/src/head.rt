@@ -7,6 +7,7 @@ ghost use Rattle.index.specs.Keeping.{Ours, top};
 use faults::access::fetch;
 use faults::fault::Fault;
 use layout::header::{Header, read_header};
+use layout::page_ref::HEADER;
 use orders::order::PointOrder;
 use pages::store::PageStore;
 
@@ -25,7 +26,7 @@ pub(crate) fn read_head<S: PageStore, O: PointOrder>(
     ensures { ReadsHead (O.PointOrder.meaning order.now) (S.PageStore.meaning store.old) result (S.PageStore.meaning store.new) }
 {
     let mut page = [0; 128];
-    fetch(store, 1, 0, &mut page)?;
+    fetch(store, HEADER, &mut page)?;
     let Some(header) = read_header(&page) else {
         return Err(Fault::NoHeader);
     };

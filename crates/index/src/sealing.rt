@@ -7,6 +7,7 @@ use crate::freed::{give_back, take_used};
 use faults::access::put;
 use faults::fault::Fault;
 use layout::header::{Header, write_header};
+use layout::page_ref::HEADER;
 use orders::order::PointOrder;
 use pages::store::PageStore;
 use records::free::FreeList;
@@ -35,7 +36,7 @@ pub(crate) fn seal<S: PageStore, O: PointOrder>(
     };
     let mut page = [0; 128];
     write_header(&mut page, header);
-    put(store, 1, 0, &page)?;
+    put(store, HEADER, &page)?;
     take_used(free, used);
     give_back(free, path, old.min(6));
     Ok(())

@@ -7,7 +7,7 @@ pub mod entry;
 pub mod header;
 pub mod laws;
 pub mod list;
-pub mod node;
+pub mod page_ref;
 pub mod reader;
 pub mod rules;
 pub mod writer;

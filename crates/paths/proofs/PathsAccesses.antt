@@ -10,11 +10,9 @@ use Rattle.layout.specs.Content.{Own}
 use Rattle.layout.specs.Bytes.{content_of, entries_of}
 use Rattle.layout.proofs.Entries.{length_entries}
 use Rattle.tree.specs.declared.visit.Rule.TheVariants.{B, C}
-use Rattle.faults.specs.declared.fault.ReadRefused.{ReadRefused}
-use Rattle.faults.specs.declared.fault.WriteRefused.{WriteRefused}
+use Rattle.faults.specs.declared.fault.Fault.{Fault}
 use Rattle.faults.specs.declared.fault.Fault.TheVariants.{Unsound}
-use Rattle.faults.specs.Refusals.{unread, unwritten}
-use Rattle.faults.specs.Accesses.{Fetches, Stores}
+use Rattle.faults.specs.Accesses.{access, Fetches, Stores}
 use Rattle.paths.specs.PathsWrites.{Refuses, Unwrites}
 use Rattle.paths.specs.PathsPages.{Read, UnreadPage, write_of}
 use Rattle.paths.specs.PathsPages.UnreadPage.{refused, broken}
@@ -23,10 +21,10 @@ read_refused : (m m' : Image) (p : ℕ) (old new : List ℕ) (f : StoreFault) �
 read_refused m m' p old new Absent r = (r.0, r.2)
 read_refused m m' p old new Uncharged r = ((r.0, r.1), r.3)
 
-pub page_refused : (m m' : Image) (p l : ℕ) (old new : List ℕ) (e : ReadRefused) → Fetches m p l old (Err e) m' new → UnreadPage m p l (unread e.access) m'
-page_refused m m' p l old new e t =
-    let x = read_refused m m' p old new e.access.fault t.2 in
-    refused e.access refl t.0 t.1 x.0 x.1
+pub page_refused : (m m' : Image) (p l : ℕ) (old new : List ℕ) (f : Fault) → Fetches m p l old (Err f) m' new → UnreadPage m p l f m'
+page_refused m m' p l old new f t =
+    let x = read_refused m m' p old new t.0 t.2 in
+    refused (access p l t.0) t.1 refl refl x.0 x.1
 
 pub differ : {A : Type 0} → false ≡ true → A
 differ e = let z : ◌≡◌ {A = ℕ} 1 0 = ap (λ b. cond b 0 1) e in absurd (omega arith)
@@ -57,21 +55,21 @@ write_refused : (m m' : Image) (p : ℕ) (b : List ℕ) (f : StoreFault) → Wri
 write_refused m m' p b Absent w = (w.1, subst (λ (x : Image). Refuses x p Absent) (sym w.1) w.0)
 write_refused m m' p b Uncharged w = (w.2, subst (λ (x : Image). Refuses x p Uncharged) (sym w.2) (w.0, w.1))
 
-pub write_broken : (m m' : Image) (p l : ℕ) (b : List ℕ) (es : List Entry) (e : WriteRefused) → Stores m p l b (Err e) m' → Unwrites (write_of l p es ∷ []) m (unwritten e.access) m'
-write_broken m m' p l b es e t =
-    let x = write_refused m m' p b e.access.fault t.2 in
+pub write_broken : (m m' : Image) (p l : ℕ) (b : List ℕ) (es : List Entry) (f : Fault) → Stores m p l b (Err f) m' → Unwrites (write_of l p es ∷ []) m f m'
+write_broken m m' p l b es f t =
+    let x = write_refused m m' p b t.0 t.2 in
     record {
-      access = e.access;
-      told = refl;
+      access = access p l t.0;
+      told = t.1;
       cut = record {
         done = [];
         next = write_of l p es;
         rest = [];
         writes = refl;
-        page = t.0;
-        level = t.1;
+        page = refl;
+        level = refl;
         began = record { accepts = tt; image = x.0 };
-        refused = subst (λ (q : ℕ). Refuses m' q e.access.fault) (sym t.0) x.1;
+        refused = x.1;
       };
     }
 

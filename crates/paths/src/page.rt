@@ -10,6 +10,7 @@ use faults::access::{fetch, put};
 use faults::fault::Fault;
 use layout::entry::Entry;
 use layout::list::EntryList;
+use layout::page_ref::PageRef;
 use layout::reader::PageReader;
 use layout::writer::write_page;
 use pages::store::PageStore;
@@ -33,7 +34,7 @@ pub(crate) fn read_page<S: PageStore>(
     ensures { ReadsPage (S.meaning store.old) page level result (S.meaning store.new) }
 {
     let mut bytes = [0; 128];
-    fetch(store, page, level, &mut bytes)?;
+    fetch(store, PageRef { page, level }, &mut bytes)?;
     if !is_own(&bytes, page, level) {
         return Err(Fault::Unsound(page, Rule::B));
     }
@@ -56,7 +57,7 @@ pub(crate) fn write_items<S: PageStore>(
 {
     let mut bytes = [0; 128];
     let _ = write_page(&mut bytes, level, page, items);
-    put(store, page, level, &bytes)?;
+    put(store, PageRef { page, level }, &bytes)?;
     Ok(())
 }
 

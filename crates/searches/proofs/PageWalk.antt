@@ -23,7 +23,7 @@ use Rattle.tree.proofs.SearchLimiting.{pass_law, unpaid_law, leaf_law, inner_law
 use Rattle.tree.proofs.SearchChild.{children_length, child_law}
 use Rattle.tree.proofs.SearchLooping.{loop_begin_law, loop_turn_law, loop_end_law, loop_early_law}
 use Rattle.faults.specs.Accesses.{contents, Fetches}
-use Rattle.faults.specs.declared.fault.ReadRefused.{ReadRefused}
+use Rattle.faults.specs.declared.fault.Fault.{Fault}
 use Rattle.searches.specs.declared.find.Find.{Find}
 use Rattle.searches.specs.declared.part.Part.{Part}
 use Rattle.searches.specs.declared.find.Ending.{Ending as EndingCode}
@@ -109,9 +109,9 @@ module _ (o : Order) (lo hi : List ℕ) (start : ℕ) (m : Image) (page level en
   }
 
   -- 5. it is not read
-  pub cut_off : (a : ℕ) (e : ReadRefused) (m' : Image) (old new : List ℕ) → Reached next end (Some a) → Fetches m page level old (Err e) m' new →
+  pub cut_off : (a : ℕ) (f : Fault) (m' : Image) (old new : List ℕ) → Reached next end (Some a) → Fetches m page level old (Err f) m' new →
       Walks o lo hi start m page level end next memory used (record { ending = Cut page a; reads = 0; next = next }) m' memory used
-  cut_off a e m' old new r h = go e.access.fault h.2
+  cut_off a f m' old new r h = go h.0 h.2
     where
       go : (x : StoreFault) → Reads m page old (Err x) m' new → Walks o lo hi start m page level end next memory used (record { ending = Cut page a; reads = 0; next = next }) m' memory used
       go Absent q = record {

@@ -8,6 +8,7 @@ use crate::finding::put_finds;
 use crate::part::Part;
 use faults::access::fetch;
 use layout::list::EntryList;
+use layout::page_ref::PageRef;
 use orders::order::PointOrder;
 use orders::space::QueryBox;
 use pages::store::PageStore;
@@ -58,7 +59,7 @@ pub(crate) fn walk_page<S: PageStore, O: PointOrder>(
         };
     };
     let mut bytes = [0; 128];
-    if let Err(_) = fetch(store, page, level, &mut bytes) {
+    if let Err(_) = fetch(store, PageRef { page, level }, &mut bytes) {
         return Part {
             ending: Ending::Cut(page, a),
             reads: 0,

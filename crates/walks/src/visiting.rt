@@ -8,6 +8,7 @@ use crate::children::{counted, put_children};
 use faults::access::fetch;
 use faults::fault::Fault;
 use layout::list::EntryList;
+use layout::page_ref::PageRef;
 use layout::rules::{PageRule, check_page};
 use pages::store::PageStore;
 use records::tray::Tray;
@@ -57,7 +58,14 @@ pub(crate) fn visit_page<S: PageStore>(
     ensures size { length pending.new.memory.now ≡ length pending.old.memory.now }
 {
     let mut page = [0; 128];
-    fetch(store, v.page, v.level, &mut page)?;
+    fetch(
+        store,
+        PageRef {
+            page: v.page,
+            level: v.level,
+        },
+        &mut page,
+    )?;
     match judge(&page, v, pending) {
         Ok(count) => Ok(count),
         Err(rule) => Err(Fault::Unsound(v.page, rule)),

@@ -8,8 +8,7 @@ pub returns-in_err-fetch : goal.returns-in_err-fetch
 returns-in_err-fetch g c =
     let mean = g.S.PageStore.meaning in
     let p = err_from_is_err_and c.from_residual.result c.from_residual.ensures.1 in
-    let h = c.in_err-fetch.ensures in
-    rw (p.1, p.2) (head_refused (g.O.PointOrder.meaning c.args.order.now) (mean c.args.store.now) (mean c.fetch.new.store) c.in_err-fetch.field-0.0.access _ c.fetch.new.into h.0 h.1 h.2)
+    rw (p.1, p.2) (head_refused (g.O.PointOrder.meaning c.args.order.now) (mean c.args.store.now) (mean c.fetch.new.store) c.in_err-fetch.field-0.0 _ c.fetch.new.into c.in_err-fetch.ensures)
 
 pub returns-then-not-is_ours : goal.returns-then-not-is_ours
 returns-then-not-is_ours g c =

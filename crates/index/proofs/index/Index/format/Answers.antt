@@ -15,10 +15,8 @@ returns-in_err-put g c =
     let x = c.args.self.now in
     let mean = g.S.PageStore.meaning in
     let p = err_from_is_err_and c.from_residual.result c.from_residual.ensures.1 in
-    let h = c.in_err-put.ensures in
-    let e = c.in_err-put.field-0.0 in
     rw (p.1, p.2) (record {
-      step = format_refused (g.O.PointOrder.meaning x.order) (mean x.store) (mean c.put.new.store) (view mean x).known c.write_header.new.page e.access h.0 h.1 h.2;
+      step = format_refused (g.O.PointOrder.meaning x.order) (mean x.store) (mean c.put.new.store) (view mean x).known c.write_header.new.page c.in_err-put.field-0.0 c.in_err-put.ensures;
       order = refl;
     })
 

@@ -1,0 +1,9 @@
+// Which page is meant, and the level that it must have: 1 for a leaf, the tree's height for its root, 0 for the header.
+#[derive(Clone, Copy, PartialEq, Eq, Debug)]
+pub struct PageRef {
+    pub page: u16,
+    pub level: u8,
+}
+
+// The header's page.
+pub const HEADER: PageRef = PageRef { page: 1, level: 0 };
