@@ -1,7 +1,6 @@
 // The bytes of header and tree pages: reading, writing, entry lists, and what makes one page well formed.
 #![tactic(auto)]
 
-mod bytes;
 pub mod change;
 pub mod entry;
 pub mod header;
@@ -9,4 +8,5 @@ pub mod laws;
 pub mod list;
 pub mod reader;
 pub mod rules;
+pub mod visit;
 pub mod writer;

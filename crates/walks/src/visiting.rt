@@ -11,7 +11,7 @@ use layout::list::EntryList;
 use layout::rules::{PageRule, check_page};
 use pages::store::PageStore;
 use records::tray::Tray;
-use tree::visit::{Rule, Visit};
+use layout::visit::{Rule, Visit};
 
 fn rule_of(rule: PageRule) -> Rule
     ensures { result ≡ rule_of_lem rule }
