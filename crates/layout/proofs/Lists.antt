@@ -1,5 +1,5 @@
 -- Writes of entries through the slice of a list.
-use Rattle.std.proofs.Common.{◌≡◌, ℕ, List, length, set, drop, sym, refl, ap, ◌∙◌, arith, length-set}
+use Rattle.std.proofs.Common.{◌≡◌, ℕ, List, length, set, drop, ap, ◌∙◌, length-set}
 use Rattle.std.specs.List.{refill}
 use Rattle.std.proofs.lemmas.List.{take_at}
 

@@ -1,5 +1,4 @@
-use Rattle.std.proofs.Common.{◌≡◌, ◌+◌, suc, ◌<◌, ◌⊎◌, length, ap, inl, inr, arith}
-use Rattle.std.proofs.lemmas.List.Edits.{length-remove}
+use Rattle.std.proofs.Common.{◌≡◌, suc, ◌<◌, ◌⊎◌, length, inl, inr, arith}
 use Rattle.layout.specs.Listed.{entries}
 use Rattle.layout.proofs.Inners.{drops_other, drops_last}
 use Rattle.layout.proofs.list.EntryList.drop_at.Goals as goal
