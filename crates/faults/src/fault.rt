@@ -3,7 +3,7 @@ ghost use Rattle.std.specs.Prelude.{◌≡◌};
 ghost use Rattle.faults.specs.Refusals.{number_of, unread, unwritten};
 
 use pages::fault::StoreFault;
-use tree::visit::Rule;
+use layout::visit::Rule;
 
 // The store's own fault, whole, with the page that was asked for and its level, 0 for the header.
 #[derive(Clone, Copy)]

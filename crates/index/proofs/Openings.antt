@@ -4,7 +4,7 @@ use Rattle.std.proofs.lemmas.Bool.{cases_lt}
 use Rattle.pages.specs.Image.{Image, granted}
 use Rattle.layout.specs.declared.header.Header.{Header}
 use Rattle.orders.specs.Orders.{Order, Lawful}
-use Rattle.tree.specs.declared.visit.Rule.{Rule}
+use Rattle.layout.specs.declared.visit.Rule.{Rule}
 use Rattle.tree.specs.Tree.{Node, Held, Contents, counts}
 use Rattle.tree.specs.Tree.Held.{none, held}
 use Rattle.tree.specs.CopyLaws.{SoundOf, root_of, pages_of, usable, unused}

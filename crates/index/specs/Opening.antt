@@ -7,7 +7,7 @@ use Rattle.layout.specs.Heads.{header_bytes, Proper}
 use Rattle.orders.specs.Orders.{Order}
 use Rattle.tree.specs.CopyLaws.{usable, unused}
 use Rattle.tree.specs.Scan.{Outcome, opened}
-use Rattle.tree.specs.declared.visit.Rule.{Rule}
+use Rattle.layout.specs.declared.visit.Rule.{Rule}
 use Rattle.tree.specs.Scan.{accepted as sound, refused as unsound, uncharged as short}
 use Rattle.faults.specs.Accesses.{contents}
 use Rattle.faults.specs.Refusals.{letter}

@@ -13,7 +13,7 @@ use orders::order::PointOrder;
 use pages::store::PageStore;
 use records::free::FreeList;
 use tree::copy_limit::last_usable;
-use tree::visit::Visit;
+use layout::visit::Visit;
 use walks::scan::scan;
 
 impl<S: PageStore, O: PointOrder> Index<S, O> {

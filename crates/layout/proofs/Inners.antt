@@ -1,7 +1,7 @@
 -- The edits of an inner page by the place of the child.
-use Rattle.std.proofs.Common.{◌≡◌, ℕ, zero, suc, ◌+◌, ◌-◌, ◌<◌, ◌≤◌, true, false, leb, ◌⊎◌, List, [], ◌∷◌, length, get_or, set, sym, refl, ap, ◌∙◌, subst, inl, inr, arith}
-use Rattle.std.specs.List.{insert, remove}
-use Rattle.std.proofs.lemmas.List.Edits.{length-remove}
+use Rattle.std.proofs.Common.{◌≡◌, ℕ, zero, suc, ◌-◌, ◌<◌, ◌≤◌, true, false, leb, ◌⊎◌, List, [], ◌∷◌, length, get_or, set, Ok, sym, refl, ap, ◌∙◌, subst, inl, inr, arith}
+use Rattle.std.specs.List.{insert, refill, remove}
+use Rattle.std.proofs.lemmas.List.Edits.{length-remove, get_or-remove_below}
 use Rattle.std.proofs.lemmas.List.{length-set}
 use Rattle.std.proofs.lemmas.Bool.{cond-true, cond-false, le-leb, lt-leb}
 use Rattle.layout.specs.declared.entry.Entry.{Entry}
@@ -9,6 +9,7 @@ use Rattle.layout.specs.declared.change.ChildPages.{ChildPages}
 use Rattle.layout.specs.declared.change.ChildPages.TheVariants.{One, Two}
 use Rattle.layout.specs.Listed.{ChildPlace, blank}
 use Rattle.layout.specs.Edits.{one, two, entry, child_for, put_child, drop_child_lem, before, ended}
+use Rattle.layout.proofs.Lists.{written}
 use Rattle.layout.specs.Changes.{Ends, Puts, split_of}
 
 place_on : (e : Entry) (es : List Entry) (a i : ℕ) → ChildPlace (e ∷ es) a (suc i) → ChildPlace es a i
@@ -81,26 +82,29 @@ module _ (a : ℕ) where
       ∙ before_some e out (omega (arith, length-set (remove (d ∷ es) (suc i)) i (ended (get_or (d ∷ es) i blank)), length-remove (d ∷ es) (suc i) (omega arith)))
 
 -- each way through the code's edits
-pub puts_one : (es out : List Entry) (i key v : ℕ) (s : ChildPages) → s ≡ One v → Ends es i key → out ≡ set es i (entry key v) → (a : ℕ) → ChildPlace es a i → Puts a s es true out
+pub puts_one : (es out : List Entry) (i key v : ℕ) (s : ChildPages) → s ≡ One v → Ends es i key → out ≡ set es i (entry key v) → (a : ℕ) → ChildPlace es a i → Puts a s es (Ok tt) out
 puts_one es out i key v s q e o a p = o ∙ put_one a es i key v p e ∙ ap (λ (x : ChildPages). put_child es a (split_of x)) (sym q)
 
-pub puts_two : (es mid out : List Entry) (i key v j w : ℕ) (s : ChildPages) → s ≡ Two v j w → Ends es i key → mid ≡ set es i (entry key w) → out ≡ insert mid i (entry j v) → (a : ℕ) → ChildPlace es a i → Puts a s es true out
+pub puts_two : (es mid out : List Entry) (i key v j w : ℕ) (s : ChildPages) → s ≡ Two v j w → Ends es i key → mid ≡ set es i (entry key w) → out ≡ insert mid i (entry j v) → (a : ℕ) → ChildPlace es a i → Puts a s es (Ok tt) out
 puts_two es mid out i key v j w s q e m o a p =
     o ∙ ap (λ (x : List Entry). insert x i (entry j v)) m ∙ put_two a es i key v j w p e ∙ ap (λ (x : ChildPages). put_child es a (split_of x)) (sym q)
 
-pub drops_other : (es out : List Entry) (i n : ℕ) → (i ≡ 0) ⊎ ((i ≡ 0 → ⊥) × (i + 1 < n)) → n ≡ length es → out ≡ remove es i → (a : ℕ) → ChildPlace es a i → out ≡ drop_child_lem es a
-drops_other es out i n w l o a p =
+pub drops_other : (es out : List Entry) (i : ℕ) → (i ≡ 0) ⊎ (suc i < length es) → out ≡ remove es i → (a : ℕ) → ChildPlace es a i → out ≡ drop_child_lem es a
+drops_other es out i w o a p =
     elim w [
       | inl e ↦ o ∙ ap (remove es) e ∙ sym (drop_first a es (subst (ChildPlace es a) e p))
-      | inr h ↦ o ∙ sym (drop_other a es i p (omega (arith, h.1)))
+      | inr h ↦ o ∙ sym (drop_other a es i p h)
     ]
 
-last_of : (es : List Entry) (i j : ℕ) → i ≡ suc j → suc i ≡ length es → (a : ℕ) → ChildPlace es a i → drop_child_lem es a ≡ set (remove es i) j (ended (get_or es j blank))
+last_of : (es : List Entry) (i j : ℕ) → i ≡ suc j → suc i ≡ length es → (a : ℕ) → ChildPlace es a i → drop_child_lem es a ≡ set (remove es i) j (ended (get_or (remove es i) j blank))
 last_of es i j e l a p =
-    drop_last a es j (subst (ChildPlace es a) e p) (omega arith) ∙ ap (λ (x : ℕ). set (remove es x) j (ended (get_or es j blank))) (sym e)
+    drop_last a es j (subst (ChildPlace es a) e p) (omega arith)
+    ∙ ap (λ (x : Entry). set (remove es (suc j)) j (ended x)) (sym (get_or-remove_below es (suc j) blank j (omega arith) (omega arith)))
+    ∙ ap (λ (x : ℕ). set (remove es x) j (ended (get_or (remove es x) j blank))) (sym e)
 
-pub drops_last : (es mid out : List Entry) (i n : ℕ) (e : Entry) → i < length es → (i ≡ 0 → ⊥) → n ≤ i + 1 → n ≡ length es → e ≡ get_or es (i - 1) blank → mid ≡ remove es i
-    → out ≡ set mid (i - 1) (entry 0 e.value) → (a : ℕ) → ChildPlace es a i → out ≡ drop_child_lem es a
-drops_last es mid out i n e h z m l q r o a p =
+-- the entries that are left are written as a slice xs
+pub drops_last : (es mid xs : List Entry) (i : ℕ) → 0 < i → suc i ≡ length es → mid ≡ remove es i → xs ≡ mid → (a : ℕ) → ChildPlace es a i
+    → refill (length mid) mid (set xs (i - 1) (entry 0 (get_or xs (i - 1) blank).value)) ≡ drop_child_lem es a
+drops_last es mid xs i z l m q a p =
     let j : i ≡ suc (i - 1) = omega arith in
-    o ∙ (λ k. set (r k) (i - 1) (ended (q k))) ∙ sym (last_of es i (i - 1) j (omega arith) a p)
+    written mid xs (i - 1) (entry 0 (get_or xs (i - 1) blank).value) q ∙ (λ k. set (m k) (i - 1) (ended (get_or ((q ∙ m) k) (i - 1) blank))) ∙ sym (last_of es i (i - 1) j l a p)

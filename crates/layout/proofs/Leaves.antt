@@ -1,12 +1,14 @@
 -- The edits of a leaf by the place of the address.
 use Rattle.std.proofs.Common.{◌≡◌, ℕ, zero, suc, ◌+◌, ◌-◌, ◌<◌, ◌≤◌, true, false, eqb, leb, List, [], ◌∷◌, length, get_or, set, Some, None, Ok, Err, sym, refl, ap, ◌∙◌, arith}
-use Rattle.std.specs.List.{insert, remove as removed}
+use Rattle.std.specs.List.{insert, refill, remove as removed}
 use Rattle.std.proofs.lemmas.Bool.{cond-true, cond-false, le-leb, lt-leb, eq-eqb, ne_eqb}
+use Rattle.std.proofs.lemmas.List.{set-get_or}
 use Rattle.layout.specs.declared.entry.Entry.{Entry}
 use Rattle.layout.specs.declared.change.EnterFault.TheVariants.{CountFull, NoRoom}
 use Rattle.layout.specs.Listed.{LeafPlace, FindsLeafPlace, blank}
 use Rattle.layout.specs.Changes.{Enters, Removes}
 use Rattle.layout.specs.Edits.{entry, found, enter, remove}
+use Rattle.layout.proofs.Lists.{written}
 
 place_on : (e : Entry) (es : List Entry) (a i : ℕ) → LeafPlace (e ∷ es) a (suc i) → LeafPlace es a i
 place_on e es a i p = record { within = omega (arith, p.within); below = λ k h. p.below (suc k) (omega arith); here = λ h. p.here (omega arith) }
@@ -57,24 +59,32 @@ module _ (a : ℕ) where
   enter_new (d ∷ es) (suc i) p ne =
       cond-false (leb a d.key) _ _ (past d es a i p) ∙ ap (λ (z : List Entry). d ∷ z) (enter_new es i (place_on d es a i p) (λ h. ne (omega arith)))
 
-  -- each way through the code's edits
+  -- each way through the code's edits, which reads the entries as a slice xs
   module _ (es : List Entry) (i : ℕ) where
-    pub counted : (e : Entry) → FindsLeafPlace es a (Ok i) → e ≡ get_or es i blank → Some e.value ≡ found a es
-    counted e p q = ap (λ (x : Entry). Some x.value) q ∙ sym (found_there es i p.0 p.1 p.2)
+    pub counted : (xs : List Entry) → FindsLeafPlace es a (Ok i) → xs ≡ es → Some (get_or xs i blank).value ≡ found a es
+    counted xs p q = ap (λ (z : List Entry). Some (get_or z i blank).value) q ∙ sym (found_there es i p.0 p.1 p.2)
 
     pub uncounted : FindsLeafPlace es a (Err i) → None ≡ found a es
     uncounted p = sym (found_not es i p.0 p.1)
 
-    pub enters_full : (e : Entry) (out : List Entry) → FindsLeafPlace es a (Ok i) → e ≡ get_or es i blank → e.value ≡ 65535 → out ≡ es → Enters a es (Err CountFull) out
-    enters_full e out p q v o = (sym (counted e p q) ∙ ap Some v, o)
+    -- a new count at the place
+    recounted : (xs : List Entry) (n : ℕ) → FindsLeafPlace es a (Ok i) → xs ≡ es → refill (length es) es (set xs i (entry (get_or xs i blank).key n)) ≡ set es i (entry a n)
+    recounted xs n p q =
+        let k : (get_or xs i blank).key ≡ a = ap (λ (z : List Entry). (get_or z i blank).key) q ∙ p.2 in
+        written es xs i (entry (get_or xs i blank).key n) q ∙ ap (λ (m : ℕ). set es i (entry m n)) k
 
-    pub enters_there : (e : Entry) (out : List Entry) → FindsLeafPlace es a (Ok i) → e ≡ get_or es i blank → (e.value ≡ 65535 → ⊥) → out ≡ set es i (entry a (e.value + 1)) → Enters a es (Ok tt) out
-    enters_there e out p q v o =
-        let f = counted e p q in
-        let w : e.value + 1 ≡ suc (get_or es i blank).value = omega (arith, ap (λ (x : Entry). x.value) q) in (
-          λ g. (let s : e.value ≡ 65535 = cc in v s),
+    pub enters_full : (xs : List Entry) → FindsLeafPlace es a (Ok i) → xs ≡ es → (get_or xs i blank).value ≡ 65535 → Enters a es (Err CountFull) (refill (length es) es (set xs i (get_or xs i blank)))
+    enters_full xs p q v =
+        (sym (counted xs p q) ∙ ap Some v, written es xs i (get_or xs i blank) q ∙ ap (λ (z : List Entry). set es i (get_or z i blank)) q ∙ set-get_or es i blank)
+
+    pub enters_there : (xs : List Entry) → FindsLeafPlace es a (Ok i) → xs ≡ es → ((get_or xs i blank).value ≡ 65535 → ⊥)
+        → Enters a es (Ok tt) (refill (length es) es (set xs i (entry (get_or xs i blank).key ((get_or xs i blank).value + 1))))
+    enters_there xs p q v =
+        let f = counted xs p q in
+        let w : (get_or xs i blank).value + 1 ≡ suc (get_or es i blank).value = omega (arith, ap (λ (z : List Entry). (get_or z i blank).value) q) in (
+          λ g. (let s : (get_or xs i blank).value ≡ 65535 = cc in v s),
           λ g. (let z : ◌≡◌ {A = ℕ} 0 1 = cc in absurd (omega arith)),
-          o ∙ ap (λ (x : ℕ). set es i (entry a x)) w ∙ sym (enter_there es i p.0 p.1 p.2),
+          recounted xs ((get_or xs i blank).value + 1) p q ∙ ap (λ (x : ℕ). set es i (entry a x)) w ∙ sym (enter_there es i p.0 p.1 p.2),
         )
 
     pub enters_none : (out : List Entry) → FindsLeafPlace es a (Err i) → length es ≡ 11 → out ≡ es → Enters a es (Err NoRoom) out
@@ -91,14 +101,16 @@ module _ (a : ℕ) where
     pub removes_none : (out : List Entry) → FindsLeafPlace es a (Err i) → out ≡ es → Removes a es false out
     removes_none out p o = (sym (uncounted p), o)
 
-    present : (e : Entry) → FindsLeafPlace es a (Ok i) → e ≡ get_or es i blank → found a es ≡ None → ⊥
-    present e p q g = let f = counted e p q in let z : ◌≡◌ {A = ℕ} 0 1 = cc in omega arith
+    present : FindsLeafPlace es a (Ok i) → found a es ≡ None → ⊥
+    present p g = let f = counted es p refl in let z : ◌≡◌ {A = ℕ} 0 1 = cc in omega arith
 
-    pub removes_one : (e : Entry) (out : List Entry) → FindsLeafPlace es a (Ok i) → e ≡ get_or es i blank → e.value ≤ 1 → out ≡ removed es i → Removes a es true out
-    removes_one e out p q v o =
-        (present e p q, o ∙ sym (remove_one es i p.0 p.1 p.2 (omega (arith, ap (λ (x : Entry). x.value) q))))
+    pub removes_one : (xs out : List Entry) → FindsLeafPlace es a (Ok i) → xs ≡ es → (get_or xs i blank).value ≤ 1 → out ≡ removed es i → Removes a es true out
+    removes_one xs out p q v o =
+        (present p, o ∙ sym (remove_one es i p.0 p.1 p.2 (omega (arith, ap (λ (z : List Entry). (get_or z i blank).value) q))))
 
-    pub removes_many : (e : Entry) (out : List Entry) → FindsLeafPlace es a (Ok i) → e ≡ get_or es i blank → 1 < e.value → out ≡ set es i (entry a (e.value - 1)) → Removes a es true out
-    removes_many e out p q v o =
-        let w = ap (λ (x : Entry). x.value) q in
-        (present e p q, o ∙ ap (λ (x : ℕ). set es i (entry a (x - 1))) w ∙ sym (remove_many es i p.0 p.1 p.2 (omega arith)))
+    pub removes_many : (xs ys : List Entry) → FindsLeafPlace es a (Ok i) → xs ≡ es → ys ≡ es → 1 < (get_or xs i blank).value
+        → Removes a es true (refill (length es) es (set ys i (entry (get_or ys i blank).key ((get_or ys i blank).value - 1))))
+    removes_many xs ys p q y v =
+        let w = ap (λ (z : List Entry). (get_or z i blank).value) q in
+        let u = ap (λ (z : List Entry). (get_or z i blank).value) y in
+        (present p, recounted ys ((get_or ys i blank).value - 1) p y ∙ ap (λ (x : ℕ). set es i (entry a (x - 1))) u ∙ sym (remove_many es i p.0 p.1 p.2 (omega arith)))

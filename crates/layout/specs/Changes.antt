@@ -3,6 +3,7 @@ use Rattle.std.specs.Prelude.{◌≡◌, ℕ, suc, ◌<◌, ◌≤◌, Bool, tru
 use Rattle.layout.specs.declared.entry.Entry.{Entry}
 use Rattle.layout.specs.declared.change.EnterFault.{EnterFault}
 use Rattle.layout.specs.declared.change.EnterFault.TheVariants.{CountFull, NoRoom}
+use Rattle.layout.specs.declared.change.Full.{Full}
 use Rattle.layout.specs.declared.change.ChildPages.{ChildPages}
 use Rattle.layout.specs.declared.change.ChildPages.TheVariants.{One, Two}
 use Rattle.layout.specs.declared.change.RightHalf.{RightHalf}
@@ -34,9 +35,9 @@ AreTwo (One v) = ⊥
 AreTwo (Two v k w) = Unit {0}
 
 -- other pages in a child's place, or a list of eleven has no room for two
-abbrev pub Puts : ℕ → ChildPages → List Entry → Bool → List Entry → Type 0
-Puts a s es true after = after ≡ put_child es a (split_of s)
-Puts a s es false after = (length es ≡ 11) × (after ≡ es) × AreTwo s
+abbrev pub Puts : ℕ → ChildPages → List Entry → Result (Unit {0}) Full → List Entry → Type 0
+Puts a s es (Ok x) after = after ≡ put_child es a (split_of s)
+Puts a s es (Err e) after = (length es ≡ 11) × (after ≡ es) × AreTwo s
 
 -- the key that entry i has afterwards: 0 for the last one
 pub record Ends (es : List Entry) (i key : ℕ) : Type 0 where

@@ -1,9 +1,10 @@
 -- The header, page 1: how it is laid out, and which headers there are.
-use Rattle.std.specs.Prelude.{◌≡◌, ℕ, ◌^◌, ◌<◌, ◌≤◌, ◌⊎◌, List, ◌∷◌, ◌++◌, replicate, Some, None, Option, ◌≢◌, slice_index}
+use Rattle.std.specs.Prelude.{◌≡◌, ℕ, ◌^◌, ◌<◌, ◌≤◌, ◌⊎◌, List, ◌∷◌, ◌++◌, replicate, Ok, Err, Result, ◌≢◌, slice_index}
 use Rattle.layout.specs.declared.header.Header.{Header}
+use Rattle.layout.specs.declared.header.NotHeader.{NotHeader}
 use Rattle.layout.specs.Bytes.{little, number_at}
 
--- bytes 85, 66, 84, 49; one byte each for kind, n, p and height; two for the root; two zeros; four for the total of events; zeros
+-- bytes 85, 66, 84, 49 ("UBT1"); one byte each for kind, n, p and height; two for the root; two zeros; four for the total of events; zeros
 abbrev pub header_bytes : Header → List ℕ
 header_bytes h =
     85 ∷ 66 ∷ 84 ∷ 49 ∷ h.kind ∷ h.n ∷ h.p ∷ h.height ∷ (little 2 h.root ++ (0 ∷ 0 ∷ (little 4 h.total ++ replicate 112 0)))
@@ -30,9 +31,9 @@ pub record Proper (h : Header) : Type 0 where
   pub together : AllOrNone h.height h.root h.total
 
 -- a header that was read is proper, and the page is its encoding; where none was read, the page is no proper header's
-abbrev pub ReadsHeader : List ℕ → Option Header → Type 0
-ReadsHeader bs (Some h) = Proper h × (bs ≡ header_bytes h)
-ReadsHeader bs None = (h : Header) → Proper h → bs ≢ header_bytes h
+abbrev pub ReadsHeader : List ℕ → Result Header NotHeader → Type 0
+ReadsHeader bs (Ok h) = Proper h × (bs ≡ header_bytes h)
+ReadsHeader bs (Err e) = (h : Header) → Proper h → bs ≢ header_bytes h
 
 -- an encoded header says what was encoded
 abbrev pub HeaderLaw : Type 0

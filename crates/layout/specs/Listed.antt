@@ -1,10 +1,10 @@
 -- What an entry list holds, and where a key belongs in it.
-use Rattle.std.specs.Prelude.{◌≡◌, ℕ, suc, ◌<◌, ◌≤◌, List, [], length, take, Some, None, Ok, Err, Option, Result, ◌≢◌, slice_index_or}
+use Rattle.std.specs.Prelude.{◌≡◌, ℕ, suc, ◌<◌, ◌≤◌, List, [], length, Some, None, Ok, Err, Option, Result, ◌≢◌, slice_index_or}
 use Rattle.layout.specs.declared.entry.Entry.{Entry}
 use Rattle.layout.specs.declared.list.EntryList.{EntryList}
 
 abbrev pub entries : EntryList → List Entry
-entries l = take l.len l.items
+entries l = l.items.items
 
 -- what stands past the end
 abbrev pub blank : Entry

@@ -1,5 +1,6 @@
 -- What a reader of a page stands for: the page's bytes, and the entries still to come.
-use Rattle.std.specs.Prelude.{◌≡◌, ℕ, List, [], ◌∷◌, drop, Some, None, Option}
+use Rattle.std.specs.Prelude.{◌≡◌, ℕ, List, drop, Option}
+use Rattle.std.specs.Iterator.{YieldsFirst}
 use Rattle.layout.specs.declared.entry.Entry.{Entry}
 use Rattle.layout.specs.declared.reader.PageReader.{PageReader}
 use Rattle.layout.specs.Bytes.{entries_of}
@@ -11,6 +12,5 @@ abbrev pub to_come : PageReader → List Entry
 to_come r = drop r.at (entries_of r.bytes.now)
 
 -- the first of the entries to come is given, and the others stay; none is given where none is left
-abbrev pub Gives : Option Entry → List Entry → List Entry → Type 0
-Gives (Some e) before after = before ≡ e ∷ after
-Gives None before after = (before ≡ []) × (after ≡ [])
+abbrev pub Reads : PageReader → Option Entry → PageReader → Type 0
+Reads r e s = (bytes_in s ≡ bytes_in r) × YieldsFirst to_come r e s

@@ -1,8 +1,9 @@
 -- What the check of one page answers.
-use Rattle.std.specs.Prelude.{◌≡◌, ℕ, zero, suc, ◌≤◌, Bool, true, false, List, Ok, Err, Result}
+use Rattle.std.specs.Prelude.{◌≡◌, ℕ, zero, suc, ◌^◌, ◌≤◌, List, Some, None, Option, Ok, Err, Result}
 use Rattle.layout.specs.declared.entry.Entry.{Entry}
-use Rattle.layout.specs.declared.rules.PageRule.{PageRule}
-use Rattle.layout.specs.declared.rules.PageRule.TheVariants.{B, C, D, E}
+use Rattle.layout.specs.declared.visit.Visit.{Visit}
+use Rattle.layout.specs.declared.visit.Rule.{Rule}
+use Rattle.layout.specs.declared.visit.Rule.TheVariants.{A, B, C, D, E, F}
 use Rattle.layout.specs.Content.{Content, Own, Filled, LeafKeys, InnerKeys}
 
 -- the rule on keys, by level: D for a leaf, at level 1, and E for an inner page, above it
@@ -12,14 +13,17 @@ Keys (suc zero) start end es = LeafKeys start end es
 Keys (suc (suc l)) start end es = InnerKeys start end es
 
 -- Well formed: all rules hold. A letter: that rule is broken, and those before it hold. Levels begin at 1, so no page is right for level 0.
-abbrev pub Checks : ℕ → ℕ → ℕ → ℕ → Content → Result (Unit {0}) PageRule → Type 0
-Checks number level start end c (Ok x) = Own number level c × Filled c × Keys level start end c.entries
-Checks number level start end c (Err B) = Own number level c → level ≡ 0
-Checks number level start end c (Err C) = Own number level c × (1 ≤ level) × (Filled c → ⊥)
-Checks number level start end c (Err D) = Own number level c × (level ≡ 1) × Filled c × (LeafKeys start end c.entries → ⊥)
-Checks number level start end c (Err E) = Own number level c × (2 ≤ level) × Filled c × (InnerKeys start end c.entries → ⊥)
+-- Of a page by itself A and F say nothing, so they are never answered.
+abbrev pub Checks : Visit → Content → Result (Unit {0}) Rule → Type 0
+Checks v c (Ok x) = Own v.page v.level c × Filled c × Keys v.level v.lo v.hi c.entries
+Checks v c (Err A) = ⊥
+Checks v c (Err B) = Own v.page v.level c → v.level ≡ 0
+Checks v c (Err C) = Own v.page v.level c × (1 ≤ v.level) × (Filled c → ⊥)
+Checks v c (Err D) = Own v.page v.level c × (v.level ≡ 1) × Filled c × (LeafKeys v.lo v.hi c.entries → ⊥)
+Checks v c (Err E) = Own v.page v.level c × (2 ≤ v.level) × Filled c × (InnerKeys v.lo v.hi c.entries → ⊥)
+Checks v c (Err F) = ⊥
 
--- the least key that may follow: `low` itself, or one past it (which may be no u64)
-abbrev pub from : ℕ → Bool → ℕ
-from low true = suc low
-from low false = low
+-- the least key that may follow; none where no u64 may
+abbrev pub least : Option ℕ → ℕ
+least (Some low) = low
+least None = 2 ^ 64

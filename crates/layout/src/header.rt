@@ -2,9 +2,14 @@
 ghost use Rattle.std.specs.Prelude.{◌≡◌, ◌++◌, length, replicate, Decides};
 ghost use Rattle.layout.specs.Heads.{header_bytes, header_of, Proper, ReadsHeader};
 
-use crate::bytes::same_bytes;
+// The greatest n, p and height.
+const MOST_COORDINATES: u8 = 4;
 
-#[derive(Clone, Copy)]
+const MOST_BITS: u8 = 15;
+
+const MOST_LEVELS: u8 = 6;
+
+#[derive(Clone, Copy, PartialEq, Eq, Debug)]
 pub struct Header {
     pub kind: u8,
     pub n: u8,
@@ -14,25 +19,31 @@ pub struct Header {
     pub total: u32,
 }
 
+// A page that is no header as laid out.
+#[derive(Clone, Copy, PartialEq, Eq, Debug)]
+pub struct NotHeader;
+
+// The header over a whole page.
+impl From<Header> for [u8; 128] {
+    ghost from_gives = { λ h bs. bs ≡ header_bytes h };
+
+    fn from(h: Header) -> [u8; 128] {
+        let mut page = [0; 128];
+        put_header(&mut page[0..16], h);
+        page
+    }
+}
+
 // Encodes a header into the first sixteen bytes of a page, which it is lent.
 fn put_header(part: &mut [u8], h: Header)
     requires { length part.old ≡ 16 }
     ensures { part.new ++ replicate 112 0 ≡ header_bytes h }
 {
-    let root = h.root.to_le_bytes();
-    let total = h.total.to_le_bytes();
+    let [r0, r1] = h.root.to_le_bytes();
+    let [t0, t1, t2, t3] = h.total.to_le_bytes();
     part.copy_from_slice(&[
-        85, 66, 84, 49, h.kind, h.n, h.p, h.height, root[0], root[1], 0, 0, total[0], total[1],
-        total[2], total[3],
+        b'U', b'B', b'T', b'1', h.kind, h.n, h.p, h.height, r0, r1, 0, 0, t0, t1, t2, t3,
     ]);
-}
-
-// Writes the header over the whole page.
-pub fn write_header(page: &mut [u8; 128], h: Header)
-    ensures { page.new ≡ header_bytes h }
-{
-    *page = [0; 128];
-    put_header(&mut page[0..16], h);
 }
 
 // What a page says at the places of a header.
@@ -53,24 +64,26 @@ fn decode_header(page: &[u8; 128]) -> Header
 fn is_proper(h: Header) -> bool
     ensures { Decides result (Proper h) }
 {
-    let space = h.kind >= 1 && h.n >= 1 && h.n <= 4 && h.p >= 1 && h.p <= 15;
+    let space = h.kind >= 1 && h.n >= 1 && h.n <= MOST_COORDINATES && h.p >= 1 && h.p <= MOST_BITS;
     let empty = h.height == 0 && h.root == 0 && h.total == 0;
-    let full = h.height >= 1 && h.height <= 6 && h.root >= 1 && h.total >= 1;
+    let full = h.height >= 1 && h.height <= MOST_LEVELS && h.root >= 1 && h.total >= 1;
     space && (empty || full)
 }
 
-// The header that a page is the encoding of; none where it is no header as laid out.
-pub fn read_header(page: &[u8; 128]) -> Option<Header>
-    ensures { ReadsHeader page.now result }
-{
-    let h = decode_header(page);
-    if !is_proper(h) {
-        return None;
+// The header that a page is the encoding of.
+impl TryFrom<&[u8; 128]> for Header {
+    type Error = NotHeader;
+
+    ghost try_from_gives = { λ page r. ReadsHeader page.now r };
+
+    fn try_from(page: &[u8; 128]) -> Result<Header, NotHeader> {
+        let h = decode_header(page);
+        if !is_proper(h) {
+            return Err(NotHeader);
+        }
+        if <[u8; 128]>::from(h) != *page {
+            return Err(NotHeader);
+        }
+        Ok(h)
     }
-    let mut again = [0; 128];
-    write_header(&mut again, h);
-    if !same_bytes(&again, page) {
-        return None;
-    }
-    Some(h)
 }

@@ -1,7 +1,6 @@
 // The bytes of header and tree pages: reading, writing, entry lists, and what makes one page well formed.
 #![tactic(auto)]
 
-mod bytes;
 pub mod change;
 pub mod entry;
 pub mod header;
@@ -10,4 +9,5 @@ pub mod list;
 pub mod page_ref;
 pub mod reader;
 pub mod rules;
+pub mod visit;
 pub mod writer;

@@ -1,14 +1,11 @@
 // Up to eleven entries: those of a full page, and one more before it is split.
-ghost use Rattle.std.specs.Prelude.{◌≡◌, ◌≤◌, length};
-
 use crate::entry::Entry;
+use arrayvec::ArrayVec;
 
 mod edits;
 mod places;
 
-#[derive(Drop)]
+#[derive(Drop, Debug)]
 pub struct EntryList {
-    items: [Entry; 11],
-    len: usize,
-    ghost ok: { (len ≤ 11) × (length items ≡ 11) },
+    items: ArrayVec<Entry, 11>,
 }

@@ -1,12 +1,12 @@
 // A tree page is read through a window on its bytes, entry by entry.
 ghost use Rattle.std.specs.Prelude.{◌≡◌, ◌<◌, min};
 ghost use Rattle.layout.specs.Bytes.{level_of, count_of, number_of, entry_at, entries_of};
-ghost use Rattle.layout.specs.Reading.{bytes_in, to_come, Gives};
+ghost use Rattle.layout.specs.Reading.{bytes_in, to_come};
 
 use crate::entry::Entry;
 
 // Borrows the bytes of a page; the cursor is at the entry to be read next.
-#[derive(Drop)]
+#[derive(Clone, Copy, Debug)]
 pub struct PageReader<'a> {
     bytes: &'a [u8; 128],
     at: usize,
@@ -39,12 +39,20 @@ impl<'a> PageReader<'a> {
     {
         u16::from_le_bytes([self.bytes[2], self.bytes[3]])
     }
+}
 
-    // The next entry, or none at the end. A page has places for ten, whatever it says.
-    pub fn next(&mut self) -> Option<Entry>
-        ensures same { bytes_in self.new ≡ bytes_in self.old }
-        ensures gives { Gives result (to_come self.old) (to_come self.new) }
-    {
+// The entries to come. A page has places for ten, whatever it says.
+impl Iterator for PageReader<'_> {
+    ghost use Rattle.std.specs.Iterator.{item_count};
+    ghost use Rattle.layout.specs.Reading.{to_come, Reads};
+
+    type Item = Entry;
+
+    ghost next_gives = { Reads };
+
+    ghost remaining = { item_count to_come };
+
+    fn next(&mut self) -> Option<Entry> {
         if self.at >= held(self.bytes) {
             return None;
         }

@@ -16,15 +16,24 @@ fn put_entry(part: &mut [u8], e: Entry)
     part.copy_from_slice(&[k0, k1, k2, k3, k4, k5, k6, k7, v0, v1, 0, 0]);
 }
 
-// Writes a tree page over the lent one. False, and nothing is written, where there are more than ten entries.
-pub fn write_page(page: &mut [u8; 128], level: u8, number: u16, entries: &[Entry]) -> bool
+// Why a page is not written: it has room for ten entries.
+#[derive(Clone, Copy, PartialEq, Eq, Debug)]
+pub struct TooMany;
+
+// Writes a tree page over the lent one. Refused, and nothing is written, where there are more than ten entries.
+pub fn write_page(
+    page: &mut [u8; 128],
+    level: u8,
+    number: u16,
+    entries: &[Entry],
+) -> Result<(), TooMany>
     ensures { Writes level number entries.now page.old result page.new }
 {
     if entries.len() > 10 {
-        return false;
+        return Err(TooMany);
     }
     put_page(page, level, number, entries);
-    true
+    Ok(())
 }
 
 fn put_page(page: &mut [u8; 128], level: u8, number: u16, entries: &[Entry])
@@ -32,13 +41,13 @@ fn put_page(page: &mut [u8; 128], level: u8, number: u16, entries: &[Entry])
     ensures { Holds level number entries.now page.new }
 {
     *page = [0; 128];
-    let own = number.to_le_bytes();
+    let [low, high] = number.to_le_bytes();
     page[0] = level;
     page[1] = entries.len() as u8;
-    page[2] = own[0];
-    page[3] = own[1];
-    for i in 0..entries.len() {
+    page[2] = low;
+    page[3] = high;
+    for (i, e) in entries.iter().enumerate() {
         let p = 8 + 12 * i;
-        put_entry(&mut page[p..p + 12], entries[i]);
+        put_entry(&mut page[p..p + 12], *e);
     }
 }

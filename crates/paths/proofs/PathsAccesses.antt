@@ -9,7 +9,7 @@ use Rattle.layout.specs.declared.entry.Entry.{Entry}
 use Rattle.layout.specs.Content.{Own}
 use Rattle.layout.specs.Bytes.{content_of, entries_of}
 use Rattle.layout.proofs.Entries.{length_entries}
-use Rattle.tree.specs.declared.visit.Rule.TheVariants.{B, C}
+use Rattle.layout.specs.declared.visit.Rule.TheVariants.{B, C}
 use Rattle.faults.specs.declared.fault.Fault.{Fault}
 use Rattle.faults.specs.declared.fault.Fault.TheVariants.{Unsound}
 use Rattle.faults.specs.Accesses.{access, Fetches, Stores}

@@ -6,8 +6,8 @@ use Rattle.pages.specs.Image.{Image, Has}
 use Rattle.layout.specs.declared.entry.Entry.{Entry}
 use Rattle.layout.specs.Content.{LeafKeys}
 use Rattle.layout.specs.Edits.{found}
-use Rattle.tree.specs.declared.visit.Rule.{Rule}
-use Rattle.tree.specs.declared.visit.Rule.TheVariants.{A, B, C, D, E, F}
+use Rattle.layout.specs.declared.visit.Rule.{Rule}
+use Rattle.layout.specs.declared.visit.Rule.TheVariants.{A, B, C, D, E, F}
 use Rattle.tree.specs.Tree.{Contents, count_at}
 use Rattle.tree.specs.CopyMoves.{State}
 use Rattle.tree.specs.CopyLaws.{Kept, root_of, path_of, events_of}

@@ -5,8 +5,8 @@ use Rattle.layout.specs.declared.entry.Entry.{Entry}
 use Rattle.layout.specs.declared.list.EntryList.{EntryList}
 use Rattle.layout.specs.Content.{Own, page}
 use Rattle.layout.specs.Listed.{entries}
-use Rattle.tree.specs.declared.visit.Rule.{Rule}
-use Rattle.tree.specs.declared.visit.Rule.TheVariants.{A, B, C, D, E, F}
+use Rattle.layout.specs.declared.visit.Rule.{Rule}
+use Rattle.layout.specs.declared.visit.Rule.TheVariants.{A, B, C, D, E, F}
 use Rattle.tree.specs.Tree.{Contents}
 use Rattle.tree.specs.CopyWrites.{Write}
 use Rattle.faults.specs.declared.fault.Access.{Access}

@@ -2,7 +2,7 @@
 use Rattle.std.specs.Prelude.{◌≡◌, ℕ, zero, suc, ◌-◌, ◌<◌, ◌≤◌, List, [], ◌∷◌, length, Some, None, Option, slice_index}
 use Rattle.pages.specs.declared.fault.StoreFault.TheVariants.{Uncharged}
 use Rattle.pages.specs.Image.{Image}
-use Rattle.tree.specs.declared.visit.Rule.{Rule}
+use Rattle.layout.specs.declared.visit.Rule.{Rule}
 use Rattle.tree.specs.CopyMoves.{State}
 use Rattle.tree.specs.CopyLaws.{Kept, root_of}
 use Rattle.tree.specs.CopyMemory.{path_at}

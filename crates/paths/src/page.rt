@@ -15,7 +15,7 @@ use layout::reader::PageReader;
 use layout::writer::write_page;
 use pages::store::PageStore;
 use records::free::FreeList;
-use tree::visit::Rule;
+use layout::visit::Rule;
 
 // Whether a page has this number and this level.
 fn is_own(bytes: &[u8; 128], page: u16, level: u8) -> bool

@@ -6,7 +6,7 @@ use pages::fault::StoreFault;
 use pages::making::MakingFault;
 use script::question::Answer;
 use std::alloc::{AllocError, Global};
-use tree::visit::Rule;
+use layout::visit::Rule;
 
 fn hex_digit(n: u8) -> char {
     if n < 10 {

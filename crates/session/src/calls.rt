@@ -7,7 +7,7 @@ use pages::fault::StoreFault;
 use pages::store::PageStore;
 use script::call::{Access, IndexCall};
 use std::alloc::{AllocError, Global};
-use tree::visit::Visit;
+use layout::visit::Visit;
 
 // An opening takes no more records than this, whatever it is lent.
 const MOST_WORK: u32 = 64;

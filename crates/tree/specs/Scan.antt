@@ -3,9 +3,9 @@
 use Rattle.std.specs.Prelude.{ℕ, zero, suc, ◌+◌, ◌-◌, Bool, true, false, cond, ◌&&◌, List, [], ◌∷◌, ◌++◌, length, ◌==◌, nat_le, nat_lt}
 use Rattle.layout.specs.declared.entry.Entry.{Entry}
 use Rattle.layout.specs.Content.{Content}
-pub use Rattle.tree.specs.declared.visit.Visit.{Visit}
-pub use Rattle.tree.specs.declared.visit.Rule.{Rule}
-pub use Rattle.tree.specs.declared.visit.Rule.TheVariants.{A, B, C, D, E, F}
+pub use Rattle.layout.specs.declared.visit.Visit.{Visit}
+pub use Rattle.layout.specs.declared.visit.Rule.{Rule}
+pub use Rattle.layout.specs.declared.visit.Rule.TheVariants.{A, B, C, D, E, F}
 use Rattle.tree.specs.Tree.{Contents, counts}
 
 abbrev pub visit : ℕ → ℕ → ℕ → ℕ → Visit

@@ -6,5 +6,5 @@ ghost use Rattle.tree.specs.Tree.{limit_of};
 pub fn last_usable(pages: u16) -> u16
     ensures { result ≡ limit_of pages }
 {
-    if pages < 1024 { pages } else { 1024 }
+    pages.min(1024)
 }

@@ -5,4 +5,3 @@ pub mod copy_laws;
 pub mod copy_limit;
 pub mod scan_laws;
 pub mod search_laws;
-pub mod visit;

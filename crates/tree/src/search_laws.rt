@@ -1,20 +1,12 @@
 // Theorems about the search of a tree, each the contract of a function that computes nothing.
-ghost use Rattle.tree.specs.SearchLaws.{FirstLaw, TestLaw};
-ghost use Rattle.tree.specs.SearchLaws.{FindsLaw};
-ghost use Rattle.tree.specs.SearchLaws.{RegionsLaw, ReadsLaw, ReadsFromLaw, CountLaw, OnceLaw};
-ghost use Rattle.tree.specs.SearchLaws.{DoneLaw, OnlyLaw, AppendLaw, ExactLaw};
-ghost use Rattle.tree.specs.SearchLaws.{CutLaw, CutPageLaw, MoreLaw};
-ghost use Rattle.tree.specs.SearchLaws.{ResumeLaw, FinishLaw, AgainLaw};
-ghost use Rattle.tree.specs.SearchLaws.{ProgressLaw, ProgressMoreLaw, RoundsLaw};
-ghost use Rattle.tree.specs.SearchLaws.{WalkLaw, LimitedLaw};
-ghost use Rattle.tree.specs.SearchCodeLaws.{PassLaw, UnpaidLaw, LeafLaw, InnerLaw};
-ghost use Rattle.tree.specs.SearchCodeLaws.{ChildLaw, LoopBeginLaw, LoopTurnLaw, LoopEndLaw, LoopEarlyLaw};
-ghost use Rattle.tree.specs.SearchCodeLaws.{EntryLaw};
+ghost use Rattle.tree.specs.SearchLaws.{FirstLaw, TestLaw, FindsLaw, RegionsLaw, ReadsLaw, ReadsFromLaw, CountLaw, OnceLaw, DoneLaw, OnlyLaw, AppendLaw, ExactLaw, CutLaw, CutPageLaw, MoreLaw, ResumeLaw, FinishLaw, AgainLaw, ProgressLaw, ProgressMoreLaw, RoundsLaw, WalkLaw, LimitedLaw};
+ghost use Rattle.tree.specs.SearchCodeLaws.{PassLaw, UnpaidLaw, LeafLaw, InnerLaw, ChildLaw, LoopBeginLaw, LoopTurnLaw, LoopEndLaw, LoopEarlyLaw, EntryLaw};
 ghost use Rattle.tree.specs.SearchExample.{SearchExample};
 
 // `first` is the least address of a region that passes, and `meets` tests that there is one.
 pub fn first_stands() -> u8
-    ensures { (FirstLaw) × (TestLaw) }
+    ensures first { FirstLaw }
+    ensures test { TestLaw }
 {
     0
 }
@@ -28,14 +20,21 @@ pub fn finds_stands() -> u8
 
 // It reads the pages whose region holds an address of the box at or above its start, each once and in visiting order.
 pub fn reads_stands() -> u8
-    ensures { (RegionsLaw) × ((ReadsLaw) × ((ReadsFromLaw) × ((CountLaw) × (OnceLaw)))) }
+    ensures regions { RegionsLaw }
+    ensures reads { ReadsLaw }
+    ensures reads_from { ReadsFromLaw }
+    ensures count { CountLaw }
+    ensures once { OnceLaw }
 {
     0
 }
 
 // With enough charge and room it ends done with all finds, and only so.
 pub fn done_stands() -> u8
-    ensures { (DoneLaw) × ((OnlyLaw) × ((AppendLaw) × (ExactLaw))) }
+    ensures done { DoneLaw }
+    ensures only { OnlyLaw }
+    ensures append { AppendLaw }
+    ensures exact { ExactLaw }
 {
     0
 }
@@ -43,21 +42,27 @@ pub fn done_stands() -> u8
 // With less charge and as much room it ends cut, at the first page not paid for; where it ends more, the address is the next event's.
 // Either way its finds are a beginning.
 pub fn cut_stands() -> u8
-    ensures { (CutLaw) × ((CutPageLaw) × (MoreLaw)) }
+    ensures cut { CutLaw }
+    ensures cut_page { CutPageLaw }
+    ensures more { MoreLaw }
 {
     0
 }
 
 // Resumed at the address where it stopped, it finds exactly the rest, with no more reads than the whole and one way down read again at most.
 pub fn resume_stands() -> u8
-    ensures { (ResumeLaw) × ((FinishLaw) × (AgainLaw)) }
+    ensures resume { ResumeLaw }
+    ensures finish { FinishLaw }
+    ensures again { AgainLaw }
 {
     0
 }
 
 // With charge of at least the height a cut names an address above its start; so search after search ends, with just the finds of one search.
 pub fn progress_stands() -> u8
-    ensures { (ProgressLaw) × ((ProgressMoreLaw) × (RoundsLaw)) }
+    ensures progress { ProgressLaw }
+    ensures progress_more { ProgressMoreLaw }
+    ensures rounds { RoundsLaw }
 {
     0
 }
@@ -65,21 +70,29 @@ pub fn progress_stands() -> u8
 // The walk that carries one number makes the same steps, and asks for a first address once, and at most once for each leaf that it reads;
 // with a charge and room it comes to the run of these steps.
 pub fn walk_stands() -> u8
-    ensures { (WalkLaw) × (LimitedLaw) }
+    ensures walk { WalkLaw }
+    ensures limited { LimitedLaw }
 {
     0
 }
 
 // For code: what the walk of one page comes to,
 pub fn page_walk_stands() -> u8
-    ensures { (PassLaw) × ((UnpaidLaw) × ((LeafLaw) × (InnerLaw))) }
+    ensures pass { PassLaw }
+    ensures unpaid { UnpaidLaw }
+    ensures leaf { LeafLaw }
+    ensures inner { InnerLaw }
 {
     0
 }
 
 // the loop over its children,
 pub fn child_loop_stands() -> u8
-    ensures { (ChildLaw) × ((LoopBeginLaw) × ((LoopTurnLaw) × ((LoopEndLaw) × (LoopEarlyLaw)))) }
+    ensures child { ChildLaw }
+    ensures begin { LoopBeginLaw }
+    ensures turn { LoopTurnLaw }
+    ensures end { LoopEndLaw }
+    ensures early { LoopEarlyLaw }
 {
     0
 }

@@ -4,7 +4,7 @@ use Rattle.std.proofs.lemmas.List.{drop_more, drop_all, reverse-append, length-s
 use Rattle.layout.specs.declared.entry.Entry.{Entry}
 use Rattle.layout.specs.Content.{InnerKeys}
 use Rattle.layout.specs.Listed.{blank}
-use Rattle.tree.specs.declared.visit.Visit.{Visit}
+use Rattle.layout.specs.declared.visit.Visit.{Visit}
 use Rattle.tree.specs.Tree.{counts}
 use Rattle.tree.specs.Scan.{visit, child_visits}
 use Rattle.records.specs.Tray.{Lays}

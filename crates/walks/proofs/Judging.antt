@@ -5,9 +5,9 @@ use Rattle.layout.specs.declared.rules.PageRule.{PageRule}
 use Rattle.layout.specs.declared.rules.PageRule.TheVariants.{B as page_B, C as page_C, D as page_D, E as page_E}
 use Rattle.layout.specs.Content.{Content, Own, Filled, LeafKeys, InnerKeys}
 use Rattle.layout.specs.Rules.{Keys, Checks}
-use Rattle.tree.specs.declared.visit.Visit.{Visit}
-use Rattle.tree.specs.declared.visit.Rule.{Rule}
-use Rattle.tree.specs.declared.visit.Rule.TheVariants.{B, C, D, E}
+use Rattle.layout.specs.declared.visit.Visit.{Visit}
+use Rattle.layout.specs.declared.visit.Rule.{Rule}
+use Rattle.layout.specs.declared.visit.Rule.TheVariants.{B, C, D, E}
 use Rattle.tree.specs.Tree.{counts}
 use Rattle.tree.specs.Scan.{Turn, breaks, onward, own, filled, leaf_keys, inner_keys, child_visits, expand, judged}
 use Rattle.tree.proofs.ScanTests.{own_decides, filled_decides, leaf_keys_decides, inner_keys_decides}

@@ -3,7 +3,7 @@ use Rattle.std.proofs.Common.{◌≡◌, ℕ, suc, ◌+◌, ◌≤◌, Bool, tru
 use Rattle.std.proofs.lemmas.Bool.{cond-true, cond-false}
 use Rattle.std.proofs.lemmas.Bool.Decides.{Decides-eqb, Decides-and, Decides-like, not_from_Decides}
 use Rattle.pages.specs.Image.{Image}
-use Rattle.tree.specs.declared.visit.Rule.TheVariants.{F}
+use Rattle.layout.specs.declared.visit.Rule.TheVariants.{F}
 use Rattle.tree.specs.Scan.{Outcome, accepted, refused, scan, start, room, concluded, opened}
 use Rattle.tree.proofs.ScanTests.{decides_leb}
 use Rattle.faults.specs.Accesses.{contents}

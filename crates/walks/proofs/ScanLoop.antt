@@ -7,9 +7,9 @@ use Rattle.layout.specs.declared.rules.PageRule.{PageRule}
 use Rattle.layout.specs.declared.rules.PageRule.TheVariants.{B as page_B, C as page_C, D as page_D, E as page_E}
 use Rattle.records.specs.Tray.{Lays, Lifts}
 use Rattle.pages.specs.Image.{Image, spent, granted}
-use Rattle.tree.specs.declared.visit.Visit.{Visit}
-use Rattle.tree.specs.declared.visit.Rule.{Rule}
-use Rattle.tree.specs.declared.visit.Rule.TheVariants.{A}
+use Rattle.layout.specs.declared.visit.Visit.{Visit}
+use Rattle.layout.specs.declared.visit.Rule.{Rule}
+use Rattle.layout.specs.declared.visit.Rule.TheVariants.{A}
 use Rattle.tree.specs.Tree.{Contents, Absent as NotIn, Apart}
 use Rattle.tree.specs.Scan.{visit, Outcome, accepted, refused, uncharged, Turn, breaks, onward, absent, admits, charged, judged, turn, left_at, follow, scan, start}
 use Rattle.tree.proofs.ScanTests.{absent_decides, admits_decides}

@@ -5,9 +5,9 @@ use Rattle.layout.specs.declared.rules.PageRule.{PageRule}
 use Rattle.layout.specs.declared.rules.PageRule.TheVariants.{B as page_B, C as page_C, D as page_D, E as page_E}
 use Rattle.pages.specs.Image.{Image, Lacks, spent}
 use Rattle.pages.specs.declared.fault.StoreFault.TheVariants.{Uncharged}
-use Rattle.tree.specs.declared.visit.Visit.{Visit}
-use Rattle.tree.specs.declared.visit.Rule.{Rule}
-use Rattle.tree.specs.declared.visit.Rule.TheVariants.{B, C, D, E}
+use Rattle.layout.specs.declared.visit.Visit.{Visit}
+use Rattle.layout.specs.declared.visit.Rule.{Rule}
+use Rattle.layout.specs.declared.visit.Rule.TheVariants.{B, C, D, E}
 use Rattle.tree.specs.Scan.{judged, breaks, onward}
 use Rattle.faults.specs.Accesses.{contents}
 use Rattle.faults.specs.declared.fault.Access.{Access}

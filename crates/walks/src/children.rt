@@ -7,7 +7,7 @@ ghost use Rattle.walks.specs.Pending.{to_come};
 
 use layout::entry::Entry;
 use records::tray::Tray;
-use tree::visit::Visit;
+use layout::visit::Visit;
 
 fn count_of(e: Entry) -> u32
     ensures is { result ≡ e.value }

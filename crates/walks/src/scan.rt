@@ -9,7 +9,7 @@ use crate::visiting::visit_page;
 use faults::fault::Fault;
 use pages::store::PageStore;
 use records::tray::Tray;
-use tree::visit::{Rule, Visit};
+use layout::visit::{Rule, Visit};
 
 // The last page that is used: `limit`, but no page past the store's last or past 1,024.
 fn last_used(limit: u16, size: u16) -> u16

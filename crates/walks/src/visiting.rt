@@ -12,7 +12,7 @@ use layout::page_ref::PageRef;
 use layout::rules::{PageRule, check_page};
 use pages::store::PageStore;
 use records::tray::Tray;
-use tree::visit::{Rule, Visit};
+use layout::visit::{Rule, Visit};
 
 fn rule_of(rule: PageRule) -> Rule
     ensures { result ≡ rule_of_lem rule }

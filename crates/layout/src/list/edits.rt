@@ -1,22 +1,23 @@
 // Edits of a page's entries: those of a leaf, and those of an inner page.
-ghost use Rattle.std.specs.Prelude.{◌≡◌, ℕ, ◌+◌, ◌<◌, length, take, drop};
+ghost use Rattle.std.specs.Prelude.{◌≡◌, ℕ, ◌<◌, length};
 ghost use Rattle.layout.specs.Listed.{entries, ChildPlace};
 ghost use Rattle.layout.specs.Edits.{found, drop_child_lem, fit_leaf, fit_inner};
 ghost use Rattle.layout.specs.Changes.{Enters, Removes, Picks, Puts, Ends, after_split, Few};
 
-use crate::change::{ChildPages, EnterFault, RightHalf};
+use crate::change::{ChildPages, EnterFault, Full, RightHalf};
 use crate::entry::Entry;
 use crate::list::EntryList;
+use arrayvec::ArrayVec;
 
 impl EntryList {
     // In a leaf: the count at an address, if it has one.
     pub fn count(&self, address: u64) -> Option<u16>
         ensures { result ≡ found address (entries self.now) }
     {
-        match self.leaf_place(address) {
-            Ok(i) => Some(self.at(i).value),
-            Err(_) => None,
-        }
+        let Ok(i) = self.leaf_place(address) else {
+            return None;
+        };
+        Some(self.items[i].value)
     }
 
     // In a leaf: one more at an address. Refused, with the list as it was, where its count is the greatest there is,
@@ -26,54 +27,39 @@ impl EntryList {
     {
         match self.leaf_place(address) {
             Ok(i) => {
-                let count = self.at(i).value;
-                if count == 65535 {
+                let e = &mut self.items[i];
+                if e.value == u16::MAX {
                     return Err(EnterFault::CountFull);
                 }
-                self.set_at(
-                    i,
-                    Entry {
-                        key: address,
-                        value: count + 1,
-                    },
-                );
+                e.value += 1;
+                Ok(())
             }
+            Err(_) if self.items.is_full() => Err(EnterFault::NoRoom),
             Err(i) => {
-                if self.len() == 11 {
-                    return Err(EnterFault::NoRoom);
-                }
-                self.insert_at(
+                self.items.insert(
                     i,
                     Entry {
                         key: address,
                         value: 1,
                     },
                 );
+                Ok(())
             }
         }
-        Ok(())
     }
 
     // In a leaf: one less at an address; at 0 the entry goes. False, and nothing is changed, where it has no entry.
     pub fn remove(&mut self, address: u64) -> bool
         ensures { Removes address (entries self.old) result (entries self.new) }
     {
-        let i = match self.leaf_place(address) {
-            Ok(i) => i,
-            Err(_) => return false,
+        let Ok(i) = self.leaf_place(address) else {
+            return false;
         };
-        let count = self.at(i).value;
-        if count <= 1 {
-            self.remove_at(i);
-            return true;
+        if self.items[i].value <= 1 {
+            self.items.remove(i);
+        } else {
+            self.items[i].value -= 1;
         }
-        self.set_at(
-            i,
-            Entry {
-                key: address,
-                value: count - 1,
-            },
-        );
         true
     }
 
@@ -81,36 +67,34 @@ impl EntryList {
     pub fn child(&self, address: u64) -> Option<u16>
         ensures { Picks address (entries self.now) result }
     {
-        match self.child_place(address) {
-            Some(i) => Some(self.at(i).value),
-            None => None,
-        }
+        let i = self.child_place(address)?;
+        Some(self.items[i].value)
     }
 
     // In an inner page: one or two pages in the place of the child for an address; its key stays, and goes with the
-    // right one. False, and nothing is changed, where two find no room.
-    pub fn put_child(&mut self, address: u64, pages: ChildPages) -> bool
+    // right one. Refused, and nothing is changed, where two find no room.
+    pub fn put_child(&mut self, address: u64, pages: ChildPages) -> Result<(), Full>
         ensures { Puts address pages (entries self.old) result (entries self.new) }
     {
         match self.child_place(address) {
             Some(i) => self.put_at(i, pages),
-            None => true,
+            None => Ok(()),
         }
     }
 
-    fn put_at(&mut self, i: usize, pages: ChildPages) -> bool
+    fn put_at(&mut self, i: usize, pages: ChildPages) -> Result<(), Full>
         requires { i < length (entries self.old) }
         ensures { (a : ℕ) → ChildPlace (entries self.old) a i → Puts a pages (entries self.old) result (entries self.new) }
     {
         let key = self.end_key(i);
         match pages {
-            ChildPages::One(value) => self.set_at(i, Entry { key, value }),
+            ChildPages::One(value) => self.items[i] = Entry { key, value },
             ChildPages::Two(left, middle, right) => {
-                if self.len() == 11 {
-                    return false;
+                if self.items.is_full() {
+                    return Err(Full);
                 }
-                self.set_at(i, Entry { key, value: right });
-                self.insert_at(
+                self.items[i] = Entry { key, value: right };
+                self.items.insert(
                     i,
                     Entry {
                         key: middle,
@@ -119,7 +103,7 @@ impl EntryList {
                 );
             }
         }
-        true
+        Ok(())
     }
 
     // The key of entry i, or 0 of the last one.
@@ -127,10 +111,11 @@ impl EntryList {
         requires { i < length (entries self.now) }
         ensures { Ends (entries self.now) i result }
     {
-        if i + 1 == self.len() {
+        let n = self.len();
+        if i + 1 == n {
             return 0;
         }
-        self.at(i).key
+        self.items[i].key
     }
 
     // In an inner page: the child for an address drops out; a key that becomes last becomes 0.
@@ -146,14 +131,10 @@ impl EntryList {
         requires { i < length (entries self.old) }
         ensures { (a : ℕ) → ChildPlace (entries self.old) a i → entries self.new ≡ drop_child_lem (entries self.old) a }
     {
-        let n = self.len();
-        if i == 0 || i + 1 < n {
-            self.remove_at(i);
-            return;
+        self.items.remove(i);
+        if i > 0 && i == self.len() {
+            self.items[i - 1].key = 0;
         }
-        let value = self.at(i - 1).value;
-        self.remove_at(i);
-        self.set_at(i - 1, Entry { key: 0, value });
     }
 
     // A leaf of eleven keeps its first six; the others are its right half, and its sixth key is its key above.
@@ -165,9 +146,13 @@ impl EntryList {
         if self.fits_page() {
             return None;
         }
-        let key = self.at(5).key;
-        let entries = self.split_off_six();
-        Some(RightHalf { key, entries })
+        let key = self.items[5].key;
+        let items = ArrayVec::try_from(&self.items[6..]).unwrap();
+        self.items.truncate(6);
+        Some(RightHalf {
+            key,
+            entries: EntryList { items },
+        })
     }
 
     // The same for an inner page, where the sixth key becomes 0, since it is the left half's last.
@@ -175,24 +160,8 @@ impl EntryList {
         ensures fits { after_split (entries self.new) result ≡ fit_inner (entries self.old) }
         ensures few { Few (after_split (entries self.new) result) }
     {
-        if self.fits_page() {
-            return None;
-        }
-        let Entry { key, value } = self.at(5);
-        let entries = self.split_off_six();
-        self.set_at(5, Entry { key: 0, value });
-        Some(RightHalf { key, entries })
-    }
-
-    // Keeps the first six of eleven, and gives the last five.
-    fn split_off_six(&mut self) -> EntryList
-        requires { length (entries self.old) ≡ 11 }
-        ensures kept { entries self.new ≡ take 6 (entries self.old) }
-        ensures given { entries result ≡ drop 6 (entries self.old) }
-    {
-        let mut items = [Entry { key: 0, value: 0 }; 11];
-        items[0..5].copy_from_slice(&self.items[6..11]);
-        self.len = 6;
-        EntryList { items, len: 5 }
+        let right = self.split_leaf()?;
+        self.items[5].key = 0;
+        Some(right)
     }
 }

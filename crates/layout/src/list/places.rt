@@ -1,21 +1,21 @@
-// What an entry list holds, and its entries by their place.
-ghost use Rattle.std.specs.Prelude.{◌≡◌, ◌+◌, ◌<◌, ◌≤◌, [], ◌∷◌, length, take, Decides, slice_index_or, slice_set};
-ghost use Rattle.std.specs.List.{slice_get, insert, remove};
+// What an entry list holds, and where a key belongs in it.
+ghost use Rattle.std.specs.Prelude.{◌≡◌, ◌≤◌, [], ◌∷◌, length, Decides};
+ghost use Rattle.std.specs.List.{slice_get};
 ghost use Rattle.layout.specs.Bytes.{entries_of};
 ghost use Rattle.layout.specs.Edits.{entry};
-ghost use Rattle.layout.specs.Listed.{entries, blank, LeafPlace, ChildPlace, FindsLeafPlace, FindsChildPlace};
+ghost use Rattle.layout.specs.Listed.{entries, LeafPlace, FindsLeafPlace, FindsChildPlace};
 
 use crate::entry::Entry;
 use crate::list::EntryList;
 use crate::reader::PageReader;
+use arrayvec::ArrayVec;
 
 impl EntryList {
     pub fn new() -> EntryList
         ensures { entries result ≡ [] }
     {
         EntryList {
-            items: [Entry { key: 0, value: 0 }; 11],
-            len: 0,
+            items: ArrayVec::new(),
         }
     }
 
@@ -24,14 +24,11 @@ impl EntryList {
         ensures { entries result ≡ entry key left ∷ entry 0 right ∷ [] }
     {
         let mut list = EntryList::new();
-        list.insert_at(
-            0,
-            Entry {
-                key: 0,
-                value: right,
-            },
-        );
-        list.insert_at(0, Entry { key, value: left });
+        list.items.push(Entry { key, value: left });
+        list.items.push(Entry {
+            key: 0,
+            value: right,
+        });
         list
     }
 
@@ -39,16 +36,18 @@ impl EntryList {
     pub fn of_page(bytes: &[u8; 128]) -> EntryList
         ensures { entries result ≡ entries_of bytes.now }
     {
-        let mut items = [Entry { key: 0, value: 0 }; 11];
-        let len = load(bytes, &mut items);
-        EntryList { items, len }
+        let mut items = ArrayVec::new();
+        for e in PageReader::new(bytes) {
+            items.push(e);
+        }
+        EntryList { items }
     }
 
     pub fn len(&self) -> usize
         ensures is { result ≡ length (entries self.now) }
         ensures few { result ≤ 11 }
     {
-        self.len // 0 to 11
+        self.items.len()
     }
 
     // Whether one page has room for the entries.
@@ -61,108 +60,43 @@ impl EntryList {
     pub fn as_slice(&self) -> &[Entry]
         ensures { result.now ≡ entries self.now }
     {
-        &self.items[0..self.len]
+        self.items.as_slice()
     }
 
     pub fn get(&self, i: usize) -> Option<Entry>
         ensures { result ≡ slice_get (entries self.now) i }
     {
-        if i < self.len {
-            return Some(self.at(i));
-        }
-        None
+        self.as_slice().get(i).copied()
     }
 
     // In a leaf: where an address stands, or else where its entry would be put in.
     pub fn leaf_place(&self, address: u64) -> Result<usize, usize>
         ensures { FindsLeafPlace (entries self.now) address result }
     {
-        let i = self.first_not_below(address);
-        if i < self.len() && self.at(i).key == address {
-            return Ok(i);
+        let i = first_not_below(self.as_slice(), address);
+        match self.get(i) {
+            Some(e) if e.key == address => Ok(i),
+            _ => Err(i),
         }
-        Err(i)
     }
 
     // In an inner page: the place of the child whose region holds the address. There is none where there is no entry.
     pub fn child_place(&self, address: u64) -> Option<usize>
         ensures { FindsChildPlace (entries self.now) address result }
     {
-        if self.len == 0 {
+        let [others @ .., _] = self.as_slice() else {
             return None;
-        }
-        Some(self.place_of_child(address))
-    }
-
-    // The place of the first key that is not below the address, or the end.
-    fn first_not_below(&self, address: u64) -> usize
-        ensures { LeafPlace (entries self.now) address result }
-    {
-        for i in 0..self.len {
-            if self.items[i].key >= address {
-                return i;
-            }
-        }
-        self.len
-    }
-
-    pub(crate) fn place_of_child(&self, address: u64) -> usize
-        requires { 1 ≤ length (entries self.now) }
-        ensures { ChildPlace (entries self.now) address result }
-    {
-        for i in 0..self.len - 1 {
-            if self.items[i].key >= address {
-                return i;
-            }
-        }
-        self.len - 1
-    }
-
-    pub(crate) fn at(&self, i: usize) -> Entry
-        requires { i < length (entries self.now) }
-        ensures { result ≡ slice_index_or (entries self.now) i blank }
-    {
-        self.items[i]
-    }
-
-    pub(crate) fn set_at(&mut self, i: usize, e: Entry)
-        requires { i < length (entries self.old) }
-        ensures { entries self.new ≡ slice_set (entries self.old) i e }
-    {
-        self.items[i] = e;
-    }
-
-    pub(crate) fn insert_at(&mut self, i: usize, e: Entry)
-        requires room { length (entries self.old) < 11 }
-        requires within { i ≤ length (entries self.old) }
-        ensures { entries self.new ≡ insert (entries self.old) i e }
-    {
-        let n = self.len;
-        self.items[n] = e;
-        self.items[i..n + 1].rotate_right(1);
-        self.len = n + 1;
-    }
-
-    pub(crate) fn remove_at(&mut self, i: usize)
-        requires { i < length (entries self.old) }
-        ensures { entries self.new ≡ remove (entries self.old) i }
-    {
-        let n = self.len;
-        self.items[i..n].rotate_left(1);
-        self.len = n - 1;
+        };
+        Some(first_not_below(others, address))
     }
 }
 
-// Reads the entries of a page into an array, from its start.
-fn load(bytes: &[u8; 128], items: &mut [Entry; 11]) -> usize
-    ensures few { result ≤ 10 }
-    ensures items { take result items.new ≡ entries_of bytes.now }
+// The place of the first key that is not below the address, or the end.
+fn first_not_below(entries: &[Entry], address: u64) -> usize
+    ensures { LeafPlace entries.now address result }
 {
-    let mut entries = PageReader::new(bytes);
-    let mut n = 0;
-    while let Some(e) = entries.next() {
-        items[n] = e;
-        n += 1;
-    }
-    n
+    entries
+        .iter()
+        .position(|e| e.key >= address)
+        .unwrap_or(entries.len())
 }

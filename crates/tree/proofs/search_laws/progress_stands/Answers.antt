@@ -3,4 +3,4 @@ use Rattle.tree.proofs.SearchWhole.{rounds_law}
 use Rattle.tree.proofs.search_laws.progress_stands.Goals as goal
 
 pub returns : goal.returns
-returns c = (progress_law, (progress_more_law, rounds_law))
+returns c = record { progress = progress_law; progress_more = progress_more_law; rounds = rounds_law }

@@ -3,4 +3,4 @@ use Rattle.tree.proofs.SearchResume.{resume_law, finish_law}
 use Rattle.tree.proofs.search_laws.resume_stands.Goals as goal
 
 pub returns : goal.returns
-returns c = (resume_law, (finish_law, again_law))
+returns c = record { resume = resume_law; finish = finish_law; again = again_law }

@@ -3,4 +3,4 @@ use Rattle.tree.proofs.SearchWalking.{walk_law}
 use Rattle.tree.proofs.search_laws.walk_stands.Goals as goal
 
 pub returns : goal.returns
-returns c = (walk_law, limited_law)
+returns c = record { walk = walk_law; limited = limited_law }

@@ -1,7 +1,7 @@
 use Rattle.std.proofs.Common.{◌≡◌, ◌+◌, ◌-◌, ◌<◌, [], length, refl, ap, ◌∙◌, arith}
 use Rattle.std.proofs.lemmas.Result.{err_from_is_err_and}
 use Rattle.records.specs.declared.tray.Tray.{Tray}
-use Rattle.tree.specs.declared.visit.Visit.{Visit}
+use Rattle.layout.specs.declared.visit.Visit.{Visit}
 use Rattle.walks.specs.Pending.{to_come}
 use Rattle.walks.proofs.ScanLoop.{length_to_come, popped, popped_none, first_put, none_put, begins, few_pages, next_level, others_few, ends, refused_A, visit_refused, visit_passed}
 use Rattle.walks.proofs.scan.scan_pages.Goals as goal

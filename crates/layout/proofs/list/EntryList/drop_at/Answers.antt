@@ -1,20 +1,19 @@
-use Rattle.std.proofs.Common.{length, ap, inl, inr, arith}
-use Rattle.std.proofs.lemmas.List.Edits.{length-remove}
+use Rattle.std.proofs.Common.{◌≡◌, suc, ◌<◌, ◌⊎◌, length, inl, inr, arith}
 use Rattle.layout.specs.Listed.{entries}
 use Rattle.layout.proofs.Inners.{drops_other, drops_last}
 use Rattle.layout.proofs.list.EntryList.drop_at.Goals as goal
-use Rattle.layout.proofs.list.EntryList.drop_at.Goals.{then-i-eq0-via-then-i-eq0, then-i-eq0-via-else-i-eq0+then-i-n}
+use Rattle.layout.proofs.list.EntryList.drop_at.Goals.{else-i-gt0-via-then-i-gt0+else-i-len, else-i-gt0-via-else-i-gt0}
 
-pub returns-then-i-eq0 : goal.returns-then-i-eq0
-returns-then-i-eq0 c =
-    drops_other _ _ _ c.len-n.result (elim c.then-i-eq0.branch [
-      | then-i-eq0-via-then-i-eq0 w ↦ inl w.if-i-eq0.true
-      | then-i-eq0-via-else-i-eq0+then-i-n w ↦ inr (w.if-i-eq0.false, w.if-i-n.true)
-    ]) c.len-n.ensures.is c.remove_at.ensures
+pub returns-then-i-len : goal.returns-then-i-len
+returns-then-i-len c =
+    drops_last _ _ _ _ c.if-i-gt0.true (omega (arith, c.if-i-len.true, c.len.ensures.is, c.remove.ensures.len)) c.remove.ensures.items c.deref_mut.ensures.value
 
-pub set_at-requires : goal.set_at-requires
-set_at-requires c =
-    omega (arith, ap length c.remove_at-2.ensures, length-remove (entries c.args.self.now) c.args.i c.requires, c.requires, c.if-i-eq0.false, c.if-i-n.false, c.len-n.ensures.is)
-
-pub returns : goal.returns
-returns c = drops_last _ _ _ _ _ _ c.requires c.if-i-eq0.false c.if-i-n.false c.len-n.ensures.is c.at-value.ensures c.remove_at-2.ensures c.set_at.ensures
+pub returns-else-i-gt0 : goal.returns-else-i-gt0
+returns-else-i-gt0 c =
+    let w : (c.args.i ≡ 0) ⊎ (suc c.args.i < length (entries c.args.self.now)) =
+    elim c.else-i-gt0.branch [
+      | else-i-gt0-via-then-i-gt0+else-i-len w ↦ inr (omega (arith, w.if-i-len.false, w.len.ensures.is, c.remove.ensures.len, c.requires))
+      | else-i-gt0-via-else-i-gt0 w ↦ inl (omega (arith, w.if-i-gt0.false))
+    ]
+    in
+    drops_other _ _ _ w c.remove.ensures.items

@@ -1,7 +1,8 @@
-// What an opening works with: the pages it has yet to visit, and the rules it asks.
+// A page as an opening visits it, and the rules that it asks.
+use std::fmt;
 
 // A page yet to visit: its number, the level it must have and its region.
-#[derive(Clone, Copy)]
+#[derive(Clone, Copy, PartialEq, Eq, Debug)]
 pub struct Visit {
     pub page: u16,
     pub level: u8,
@@ -10,7 +11,7 @@ pub struct Visit {
 }
 
 // The rules of a sound tree, by their letters.
-#[derive(Clone, Copy)]
+#[derive(Clone, Copy, PartialEq, Eq, Debug)]
 pub enum Rule {
     // each page number is 2 to the last usable page and is reached once
     A,
@@ -24,4 +25,17 @@ pub enum Rule {
     E,
     // counts sum to the header's total, and a tree with pages leaves 6 free
     F,
+}
+
+impl fmt::Display for Rule {
+    fn fmt<W: fmt::Write>(&self, f: &mut fmt::Formatter<W>) -> fmt::Result {
+        f.write_str(match self {
+            Rule::A => "A",
+            Rule::B => "B",
+            Rule::C => "C",
+            Rule::D => "D",
+            Rule::E => "E",
+            Rule::F => "F",
+        })
+    }
 }
