@@ -18,6 +18,9 @@ pub trait BitRule {
 
     ghost used_of: { Self → ℕ → ℕ → ℕ };
 
+    fn over(space: Space) -> Self
+        ensures { space_of result ≡ space };
+
     fn kind(&self) -> u8
         ensures { result ≡ kind_of self.now };
 
@@ -26,11 +29,13 @@ pub trait BitRule {
 
     // the coordinate that the bit t of an address, from the top, belongs to; 0 past the last bit
     fn turn(&self, t: u32) -> usize
-        ensures { ((t < bits_of (space_of self.now) → result ≡ turn_of self.now t)) × (result < 4) };
+        ensures dealt { t < bits_of (space_of self.now) → result ≡ turn_of self.now t }
+        ensures four { result < 4 };
 
     // how many of the first t bits of an address are the coordinate j's
     fn used(&self, j: usize, t: u32) -> u32
-        ensures { ((j < 4 → t ≤ bits_of (space_of self.now) → result ≡ used_of self.now j t)) × (result ≤ 15) };
+        ensures counted { j < 4 → t ≤ bits_of (space_of self.now) → result ≡ used_of self.now j t }
+        ensures fifteen { result ≤ 15 };
 
     ghost kinds: { (s : Self) → (1 ≤ kind_of s) × (kind_of s ≤ 255) };
 

@@ -9,7 +9,7 @@ returns-then-not-touches g t c =
     let s = c.args.s.now in
     let o = g.R.BitRule in
     let sp = o.space_of s in
-    let k : c.bits.result ≡ bits_of sp = c.bits.ensures.0 ∙ ap (λ (z : Space). bits_of z) c.space.ensures in
+    let k : c.bits.result ≡ bits_of sp = c.bits.ensures.product ∙ ap (λ (z : Space). bits_of z) c.space.ensures in
     let never = c.touches.ensures.never (search rules) in
     apart sp.n sp.p (o.turn_of s) (o.used_of s) (g.met.R.BitRule.deals s) c.args.lo c.args.hi c.args.from c.args.left c.args.c c.requires.0
     (λ touch. never (rw (k, c.requires.1.1) touch))
@@ -26,7 +26,7 @@ overflow_mul-lower g t c =
     let s = c.args.s.now in
     let o = g.R.BitRule in
     let sp = o.space_of s in
-    omega (arith, room_at sp.n sp.p (o.turn_of s) (o.used_of s) (g.met.R.BitRule.deals s) c.args.left c.args.c c.turn-j.result c.args.q c.requires.1.1 c.turn-j.ensures.1)
+    omega (arith, room_at sp.n sp.p (o.turn_of s) (o.used_of s) (g.met.R.BitRule.deals s) c.args.left c.args.c c.turn-j.result c.args.q c.requires.1.1 c.turn-j.ensures.four)
 
 pub first_by-requires : goal.first_by-requires
 first_by-requires g t c κs within =
@@ -34,8 +34,8 @@ first_by-requires g t c κs within =
     let o = g.R.BitRule in
     let sp = o.space_of s in
     let pos : 0 < c.args.left = omega arith in
-    let k : c.bits.result ≡ bits_of sp = c.bits.ensures.0 ∙ ap (λ (z : Space). bits_of z) c.space.ensures in
-    let j : c.turn-j.result ≡ o.turn_of s (bits_of sp - c.args.left) = c.turn-j.ensures.0 (omega arith) ∙ ap (λ (z : ℕ). o.turn_of s (z - c.args.left)) k in
+    let k : c.bits.result ≡ bits_of sp = c.bits.ensures.product ∙ ap (λ (z : Space). bits_of z) c.space.ensures in
+    let j : c.turn-j.result ≡ o.turn_of s (bits_of sp - c.args.left) = c.turn-j.ensures.dealt (omega arith) ∙ ap (λ (z : ℕ). o.turn_of s (z - c.args.left)) k in
     let lt = half_below (bits_of sp) c.args.left c.args.c 0 pos c.requires.0 c.requires.1.0 (omega arith) in
     (search rules, (search rules, (omega arith, (omega (arith, lt), lower_at (o.turn_of s) (bits_of sp) c.args.left c.args.c c.turn-j.result c.args.q pos c.requires.0 c.requires.1.1 j))))
 
@@ -58,14 +58,14 @@ overflow_mul-upper g t c =
     let s = c.args.s.now in
     let o = g.R.BitRule in
     let sp = o.space_of s in
-    omega (arith, room_at sp.n sp.p (o.turn_of s) (o.used_of s) (g.met.R.BitRule.deals s) c.args.left c.args.c c.turn-j.result c.args.q c.requires.1.1 c.turn-j.ensures.1)
+    omega (arith, room_at sp.n sp.p (o.turn_of s) (o.used_of s) (g.met.R.BitRule.deals s) c.args.left c.args.c c.turn-j.result c.args.q c.requires.1.1 c.turn-j.ensures.four)
 
 pub overflow_add-upper : goal.overflow_add-upper
 overflow_add-upper g t c =
     let s = c.args.s.now in
     let o = g.R.BitRule in
     let sp = o.space_of s in
-    omega (arith, room_at sp.n sp.p (o.turn_of s) (o.used_of s) (g.met.R.BitRule.deals s) c.args.left c.args.c c.turn-j.result c.args.q c.requires.1.1 c.turn-j.ensures.1)
+    omega (arith, room_at sp.n sp.p (o.turn_of s) (o.used_of s) (g.met.R.BitRule.deals s) c.args.left c.args.c c.turn-j.result c.args.q c.requires.1.1 c.turn-j.ensures.four)
 
 pub first_by-requires-2 : goal.first_by-requires-2
 first_by-requires-2 g t c κs within =
@@ -73,7 +73,7 @@ first_by-requires-2 g t c κs within =
     let o = g.R.BitRule in
     let sp = o.space_of s in
     let pos : 0 < c.args.left = omega arith in
-    let k : c.bits.result ≡ bits_of sp = c.bits.ensures.0 ∙ ap (λ (z : Space). bits_of z) c.space.ensures in
-    let j : c.turn-j.result ≡ o.turn_of s (bits_of sp - c.args.left) = c.turn-j.ensures.0 (omega arith) ∙ ap (λ (z : ℕ). o.turn_of s (z - c.args.left)) k in
+    let k : c.bits.result ≡ bits_of sp = c.bits.ensures.product ∙ ap (λ (z : Space). bits_of z) c.space.ensures in
+    let j : c.turn-j.result ≡ o.turn_of s (bits_of sp - c.args.left) = c.turn-j.ensures.dealt (omega arith) ∙ ap (λ (z : ℕ). o.turn_of s (z - c.args.left)) k in
     let lt = half_below (bits_of sp) c.args.left c.args.c 1 pos c.requires.0 c.requires.1.0 (omega arith) in
     (search rules, (search rules, (omega arith, (omega (arith, lt), upper_at (o.turn_of s) (bits_of sp) c.args.left c.args.c c.turn-j.result c.args.q pos c.requires.0 c.requires.1.1 j))))

@@ -11,5 +11,5 @@ returns-then-t-bits c =
     let range : Range sp.n sp.p = (sp.some, sp.four, sp.bit, sp.fifteen) in
     let in-n : c.args.j < sp.n = omega arith in
     let e : (c.args.t + c.args.j) / c.n-n.result ≡ z_used sp.n c.args.j c.args.t =
-    ap (λ (d : ℕ). (c.args.t + c.args.j) / d) c.n-n.ensures.0 ∙ sym (used_in sp.n c.args.j c.args.t in-n) in
-    ((λ _ _. e), omega (arith, used_le sp.n sp.p (z_turn sp.n) (z_used sp.n) (z_schedule sp.n sp.p range) c.args.t c.args.j (omega arith)))
+    ap (λ (d : ℕ). (c.args.t + c.args.j) / d) c.n-n.ensures.same ∙ sym (used_in sp.n c.args.j c.args.t in-n) in
+    record { counted = λ _ _. e; fifteen = omega (arith, used_le sp.n sp.p (z_turn sp.n) (z_used sp.n) (z_schedule sp.n sp.p range) c.args.t c.args.j (omega arith)) }
