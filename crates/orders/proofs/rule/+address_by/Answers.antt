@@ -30,4 +30,4 @@ returns g t c =
     let step = address_step turn c.args.t c.args.x pos in
     let e : c.address_by.result * 2 + get_or c.args.x c.turn-j.result 0 % 2 ≡ address_of turn c.args.t c.args.x = cc in
     let small = address_lt sp.n sp.p turn (o.used_of s) (g.met.R.BitRule.deals s) c.args.t c.args.x in
-    (e, omega arith)
+    record { value = e; below = omega arith }

@@ -6,5 +6,5 @@ use Rattle.orders.proofs.rule.point_in.Goals as goal
 
 pub returns-then-a-k-ne0 : goal.returns-then-a-k-ne0
 returns-then-a-k-ne0 g c =
-    let k : c.bits-k.result ≡ bits_of (g.R.BitRule.space_of c.args.s.now) = c.bits-k.ensures.product ∙ ap (λ (z : Space). bits_of z) c.space.ensures in
+    let k : c.bits-k.result ≡ bits_of (g.R.BitRule.space_of c.args.s.now) = c.bits-k.ensures.all in
     subst (λ (z : ℕ). 2 ^ z ≤ c.args.a) k (pow_le_of_shr c.args.a c.bits-k.result c.if-a-k-ne0.true)
