@@ -13,9 +13,6 @@ use Rattle.orders.specs.Laws.{prefix, room, point_more, pow_more}
 pub shr_half : (n m : ℕ) → n / 2 ^ suc m ≡ n / 2 ^ m / 2
 shr_half n m = ap (λ k. n / 2 ^ k) (omega arith) ∙ sym (shr-shr n m 1)
 
-pub pow_le_of_shr : (a k : ℕ) → (a / 2 ^ k ≡ 0 → ⊥) → 2 ^ k ≤ a
-pow_le_of_shr a k ne = elim (cases_lt a (2 ^ k)) [ inl lt ↦ absurd (ne (div-eq_of_lt lt)) | inr le ↦ le ]
-
 pub lt_of_shr : (a k : ℕ) → a / 2 ^ k ≡ 0 → a < 2 ^ k
 lt_of_shr a k e = omega (arith, shr_split a k, mod-lt a (pow_pos k), zero-mul (2 ^ k), ap (λ q. q * 2 ^ k) e)
 
@@ -47,16 +44,6 @@ module _ (n p : ℕ) (turn : ℕ → ℕ) (used : ℕ → ℕ → ℕ) (S : Sche
   pub below : (left c : ℕ) → c < from / 2 ^ left → (a : ℕ) → Hit (n * p) turn lo hi from left c a → ⊥
   below left c lt a hit = omega (arith, shr_mono left hit.1, hit.0)
 
-  -- a block of one address
-  pub single : (left c : ℕ) → left ≡ 0 → from / 2 ^ left ≤ c → Touches (lacking (n * p) used (n * p - left)) lo hi (point_at turn (n * p - left) c) → Least (Some c) (Hit (n * p) turn lo hi from left c)
-  single zero c z le touch =
-      let one : (a : ℕ) → a / 2 ^ 0 ≡ a = λ a. simp (pow-zero, div-one) in
-      let self : (j : ℕ) (x : ℕ) → x / 2 ^ lacking (n * p) used (n * p) j ≡ x = λ j x. simp (sub_self, pow-zero, div-one) in
-      let touch' : Touches (lacking (n * p) used (n * p)) lo hi (point_at turn (n * p) c) = rw sub-zero at touch in
-      let inside : Within lo hi (point_at turn (n * p) c) = λ j lt. (omega (arith, self j (get_or lo j 0), (touch' j lt).0), omega (arith, self j (get_or hi j 0), (touch' j lt).1)) in
-      ((one c, omega (arith, one from), inside), λ b lt hit. omega (arith, one b, hit.0))
-  single (suc left) c z le touch = absurd (omega arith)
-
   pub halves : (left c a : ℕ) → Hit (n * p) turn lo hi from (suc left) c a → Hit (n * p) turn lo hi from left (c * 2 + 0) a ⊎ Hit (n * p) turn lo hi from left (c * 2 + 1) a
   halves left c a hit =
       let e = shr_half a left in
@@ -73,8 +60,7 @@ module _ (n p : ℕ) (turn : ℕ → ℕ) (used : ℕ → ℕ → ℕ) (S : Sche
   from_lower zero c r pos least = absurd (omega arith)
   from_lower (suc left) c r pos least =
       let e : suc left - 1 ≡ left = omega arith in
-      let half : Least (Some r) (Hit (n * p) turn lo hi from left (c * 2 + 0)) = rw e at least in
-      (
+      let half : Least (Some r) (Hit (n * p) turn lo hi from left (c * 2 + 0)) = rw e at least in (
         whole left c 0 r (omega arith) half.0,
         λ b less hit.
             elim (halves left c b hit) [

@@ -65,7 +65,10 @@ impl Space {
     {
         let n = self.n as usize;
         let p = self.p as u32;
-        x.coords.iter().enumerate().all(|(j, c)| if j < n { (*c >> p) == 0 } else { *c == 0 })
+        x.coords
+            .iter()
+            .enumerate()
+            .all(|(j, c)| if j < n { (*c >> p) == 0 } else { *c == 0 })
     }
 }
 
@@ -73,7 +76,12 @@ impl QueryBox {
     pub fn new(low: Point, high: Point) -> Result<QueryBox, Refusal>
         ensures { MatchResult result (λ b. (b.low ≡ low) × (b.high ≡ high)) (λ f. (f ≡ BoxEnds) × (Ordered low.coords high.coords → ⊥)) }
     {
-        if low.coords.iter().zip(high.coords.iter()).any(|(a, b)| a > b) {
+        if low
+            .coords
+            .iter()
+            .zip(high.coords.iter())
+            .any(|(a, b)| a > b)
+        {
             return Err(Refusal::BoxEnds);
         }
         Ok(QueryBox { low, high })
@@ -95,7 +103,16 @@ impl QueryBox {
     pub fn contains(&self, x: Point) -> bool
         ensures { Decides result (Within self.now.low.coords self.now.high.coords x.coords) }
     {
-        let above = self.low.coords.iter().zip(x.coords.iter()).all(|(a, c)| a <= c);
-        above && x.coords.iter().zip(self.high.coords.iter()).all(|(c, b)| c <= b)
+        let above = self
+            .low
+            .coords
+            .iter()
+            .zip(x.coords.iter())
+            .all(|(a, c)| a <= c);
+        above
+            && x.coords
+                .iter()
+                .zip(self.high.coords.iter())
+                .all(|(c, b)| c <= b)
     }
 }
