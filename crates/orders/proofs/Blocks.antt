@@ -5,16 +5,13 @@ use lib.Pow.{shr_mono}
 use Rattle.std.proofs.lemmas.Nat.{shr_split}
 use Rattle.std.proofs.lemmas.Bool.{cases_eq, cases_lt}
 use Rattle.orders.specs.Spaces.{InSpace, Within}
-use Rattle.orders.specs.Interleave.{point_at, address_of, Schedule, Touches, Hit, Least, lacking}
+use Rattle.orders.specs.Interleave.{grown, point_at, address_of, Schedule, Touches, Hit, Least, lacking}
 use Rattle.orders.specs.Orders.{FirstIs}
-use Rattle.orders.specs.Laws.{prefix, room, lower_half, upper_half, pow_more}
+use Rattle.orders.specs.Laws.{prefix, room, point_more, pow_more}
 
 -- the number without its last m + 1 bits is half of that without its last m bits
 pub shr_half : (n m : ℕ) → n / 2 ^ suc m ≡ n / 2 ^ m / 2
 shr_half n m = ap (λ k. n / 2 ^ k) (omega arith) ∙ sym (shr-shr n m 1)
-
-pub pow_le_of_shr : (a k : ℕ) → (a / 2 ^ k ≡ 0 → ⊥) → 2 ^ k ≤ a
-pow_le_of_shr a k ne = elim (cases_lt a (2 ^ k)) [ inl lt ↦ absurd (ne (div-eq_of_lt lt)) | inr le ↦ le ]
 
 pub lt_of_shr : (a k : ℕ) → a / 2 ^ k ≡ 0 → a < 2 ^ k
 lt_of_shr a k e = omega (arith, shr_split a k, mod-lt a (pow_pos k), zero-mul (2 ^ k), ap (λ q. q * 2 ^ k) e)
@@ -26,13 +23,9 @@ deeper total left pos le = omega arith
 pub half_below : (total left c b : ℕ) → 0 < left → left ≤ total → c < 2 ^ (total - left) → b < 2 → c * 2 + b < 2 ^ (total - (left - 1))
 half_below total left c b pos le lt two = rw (deeper total left pos le, pow_more) (omega arith)
 
-pub lower_at : (turn : ℕ → ℕ) (total left c j : ℕ) (q : List ℕ) → 0 < left → left ≤ total → q ≡ point_at turn (total - left) c → j ≡ turn (total - left) →
-    set q j (get_or q j 0 * 2) ≡ point_at turn (total - (left - 1)) (c * 2)
-lower_at turn total left c j q pos le at-q at_j = rw (deeper total left pos le) (lower_half turn (total - left) c j q at-q at_j)
-
-pub upper_at : (turn : ℕ → ℕ) (total left c j : ℕ) (q : List ℕ) → 0 < left → left ≤ total → q ≡ point_at turn (total - left) c → j ≡ turn (total - left) →
-    set q j (get_or q j 0 * 2 + 1) ≡ point_at turn (total - (left - 1)) (c * 2 + 1)
-upper_at turn total left c j q pos le at-q at_j = rw (deeper total left pos le) (upper_half turn (total - left) c j q at-q at_j)
+pub half_at : (turn : ℕ → ℕ) (total left c b j : ℕ) (q : List ℕ) → 0 < left → left ≤ total → b < 2 → q ≡ point_at turn (total - left) c → j ≡ turn (total - left) →
+    grown q j b ≡ point_at turn (total - (left - 1)) (c * 2 + b)
+half_at turn total left c b j q pos le two at-q at_j = rw (deeper total left pos le, at-q, at_j) (sym (point_more turn (total - left) c b two))
 
 pub room_at : (n p : ℕ) (turn : ℕ → ℕ) (used : ℕ → ℕ → ℕ) (S : Schedule n p turn used) (left c j : ℕ) (q : List ℕ) → q ≡ point_at turn (n * p - left) c → j < 4 → get_or q j 0 < 2 ^ 15
 room_at n p turn used S left c j q at-q lt = rw at-q (room n p turn used S (n * p - left) c j (omega arith) lt)
@@ -51,21 +44,11 @@ module _ (n p : ℕ) (turn : ℕ → ℕ) (used : ℕ → ℕ → ℕ) (S : Sche
   pub below : (left c : ℕ) → c < from / 2 ^ left → (a : ℕ) → Hit (n * p) turn lo hi from left c a → ⊥
   below left c lt a hit = omega (arith, shr_mono left hit.1, hit.0)
 
-  -- a block of one address
-  pub single : (left c : ℕ) → left ≡ 0 → from / 2 ^ left ≤ c → Touches (lacking (n * p) used (n * p - left)) lo hi (point_at turn (n * p - left) c) → Least (Some c) (Hit (n * p) turn lo hi from left c)
-  single zero c z le touch =
-      let one : (a : ℕ) → a / 2 ^ 0 ≡ a = λ a. simp (pow-zero, div-one) in
-      let self : (j : ℕ) (x : ℕ) → x / 2 ^ lacking (n * p) used (n * p) j ≡ x = λ j x. simp (sub_self, pow-zero, div-one) in
-      let touch' : Touches (lacking (n * p) used (n * p)) lo hi (point_at turn (n * p) c) = rw sub-zero at touch in
-      let inside : Within lo hi (point_at turn (n * p) c) = λ j lt. (omega (arith, self j (get_or lo j 0), (touch' j lt).0), omega (arith, self j (get_or hi j 0), (touch' j lt).1)) in
-      ((one c, omega (arith, one from), inside), λ b lt hit. omega (arith, one b, hit.0))
-  single (suc left) c z le touch = absurd (omega arith)
-
-  pub halves : (left c a : ℕ) → Hit (n * p) turn lo hi from (suc left) c a → Hit (n * p) turn lo hi from left (c * 2) a ⊎ Hit (n * p) turn lo hi from left (c * 2 + 1) a
+  pub halves : (left c a : ℕ) → Hit (n * p) turn lo hi from (suc left) c a → Hit (n * p) turn lo hi from left (c * 2 + 0) a ⊎ Hit (n * p) turn lo hi from left (c * 2 + 1) a
   halves left c a hit =
       let e = shr_half a left in
       elim (cases_eq (a / 2 ^ left) (c * 2)) [
-        | inl low ↦ inl (low, hit.1, hit.2)
+        | inl low ↦ inl (omega arith, hit.1, hit.2)
         | inr high ↦ inr (omega (arith, hit.0), hit.1, hit.2)
       ]
 
@@ -73,13 +56,12 @@ module _ (n p : ℕ) (turn : ℕ → ℕ) (used : ℕ → ℕ → ℕ) (S : Sche
   whole left c b a two hit = (omega (arith, shr_half a left, hit.0), hit.1, hit.2)
 
   -- the lower half has an answer
-  pub from_lower : (left c : ℕ) (r : ℕ) → 0 < left → Least (Some r) (Hit (n * p) turn lo hi from (left - 1) (c * 2)) → Least (Some r) (Hit (n * p) turn lo hi from left c)
+  pub from_lower : (left c : ℕ) (r : ℕ) → 0 < left → Least (Some r) (Hit (n * p) turn lo hi from (left - 1) (c * 2 + 0)) → Least (Some r) (Hit (n * p) turn lo hi from left c)
   from_lower zero c r pos least = absurd (omega arith)
   from_lower (suc left) c r pos least =
       let e : suc left - 1 ≡ left = omega arith in
-      let half : Least (Some r) (Hit (n * p) turn lo hi from left (c * 2)) = rw e at least in
-      let low : Hit (n * p) turn lo hi from left (c * 2 + 0) r = (omega (arith, half.0.0), half.0.1, half.0.2) in (
-        whole left c 0 r (omega arith) low,
+      let half : Least (Some r) (Hit (n * p) turn lo hi from left (c * 2 + 0)) = rw e at least in (
+        whole left c 0 r (omega arith) half.0,
         λ b less hit.
             elim (halves left c b hit) [
               | inl h ↦ half.1 b less h
@@ -89,12 +71,12 @@ module _ (n p : ℕ) (turn : ℕ → ℕ) (used : ℕ → ℕ → ℕ) (S : Sche
             ],
       )
 
-  upper_some : (left c r : ℕ) → Least None (Hit (n * p) turn lo hi from left (c * 2)) → Least (Some r) (Hit (n * p) turn lo hi from left (c * 2 + 1)) → Least (Some r) (Hit (n * p) turn lo hi from (suc left) c)
+  upper_some : (left c r : ℕ) → Least None (Hit (n * p) turn lo hi from left (c * 2 + 0)) → Least (Some r) (Hit (n * p) turn lo hi from left (c * 2 + 1)) → Least (Some r) (Hit (n * p) turn lo hi from (suc left) c)
   upper_some left c r none half =
       (whole left c 1 r (omega arith) half.0, λ b less hit. elim (halves left c b hit) [ inl h ↦ none b h | inr h ↦ half.1 b less h ])
 
   -- the lower half has none
-  pub from_upper : (left c : ℕ) (r : Option ℕ) → 0 < left → Least None (Hit (n * p) turn lo hi from (left - 1) (c * 2)) → Least r (Hit (n * p) turn lo hi from (left - 1) (c * 2 + 1)) → Least r (Hit (n * p) turn lo hi from left c)
+  pub from_upper : (left c : ℕ) (r : Option ℕ) → 0 < left → Least None (Hit (n * p) turn lo hi from (left - 1) (c * 2 + 0)) → Least r (Hit (n * p) turn lo hi from (left - 1) (c * 2 + 1)) → Least r (Hit (n * p) turn lo hi from left c)
   from_upper zero c r pos none least = absurd (omega arith)
   from_upper (suc left) c None pos none least =
       let e : suc left - 1 ≡ left = omega arith in

@@ -39,24 +39,11 @@ pub point_step : (turn : ℕ → ℕ) (t a : ℕ) → 0 < t → point_at turn t 
 point_step turn zero a pos = absurd (omega arith)
 point_step turn (suc t) a pos = let e : suc t - 1 ≡ t = omega arith in rw e
 
-pub point_even : (turn : ℕ → ℕ) (t c : ℕ) → point_at turn (t + 1) (c * 2) ≡ slice_set (point_at turn t c) (turn t) (slice_index (point_at turn t c) (turn t) * 2)
-point_even turn t c =
-    let hi : c * 2 / 2 ≡ c = omega arith in
-    let lo : c * 2 % 2 ≡ 0 = omega arith in
-    rw (add-one, hi, lo, add-zero)
-
-pub point_odd : (turn : ℕ → ℕ) (t c : ℕ) → point_at turn (t + 1) (c * 2 + 1) ≡ slice_set (point_at turn t c) (turn t) (slice_index (point_at turn t c) (turn t) * 2 + 1)
-point_odd turn t c =
-    let hi : (c * 2 + 1) / 2 ≡ c = omega arith in
-    let lo : (c * 2 + 1) % 2 ≡ 1 = omega arith in
+pub point_more : (turn : ℕ → ℕ) (t c b : ℕ) → b < 2 → point_at turn (t + 1) (c * 2 + b) ≡ grown (point_at turn t c) (turn t) b
+point_more turn t c b two =
+    let hi : (c * 2 + b) / 2 ≡ c = omega arith in
+    let lo : (c * 2 + b) % 2 ≡ b = omega arith in
     rw (add-one t, hi, lo)
-
--- the same, of a q and a j that are known by equations
-pub lower_half : (turn : ℕ → ℕ) (t c j : ℕ) (q : List ℕ) → q ≡ point_at turn t c → j ≡ turn t → slice_set q j (slice_index q j * 2) ≡ point_at turn (t + 1) (c * 2)
-lower_half turn t c j q at-q at_j = rw (at-q, at_j) (sym (point_even turn t c))
-
-pub upper_half : (turn : ℕ → ℕ) (t c j : ℕ) (q : List ℕ) → q ≡ point_at turn t c → j ≡ turn t → slice_set q j (slice_index q j * 2 + 1) ≡ point_at turn (t + 1) (c * 2 + 1)
-upper_half turn t c j q at-q at_j = rw (at-q, at_j) (sym (point_odd turn t c))
 
 pub pow_more : (t : ℕ) → 2 ^ (t + 1) ≡ 2 ^ t * 2
 pow_more t = rw (add-one, pow-suc)

@@ -42,7 +42,7 @@ pub trait PointOrder {
 }
 
 // The order that a rule makes.
-#[derive(Clone, Copy)]
+#[derive(Clone, Copy, PartialEq, Eq, Debug)]
 pub struct Interleaved<R> {
     pub rule: R,
 }
@@ -51,19 +51,14 @@ pub type ZOrder = Interleaved<ZRule>;
 
 pub type RowOrder = Interleaved<RowRule>;
 
-pub fn z_order(space: Space) -> ZOrder
-    ensures { result.rule.space ≡ space }
-{
-    Interleaved {
-        rule: ZRule { space },
-    }
-}
-
-pub fn row_order(space: Space) -> RowOrder
-    ensures { result.rule.space ≡ space }
-{
-    Interleaved {
-        rule: RowRule { space },
+impl<R: BitRule> Interleaved<R> {
+    // the rule's order of the space
+    pub fn over(space: Space) -> Interleaved<R>
+        ensures { R.space_of result.rule ≡ space }
+    {
+        Interleaved {
+            rule: R::over(space),
+        }
     }
 }
 

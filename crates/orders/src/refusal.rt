@@ -2,6 +2,8 @@
 ghost use Rattle.std.specs.Prelude.{◌≡◌};
 ghost use Rattle.orders.specs.Refusals.{number_of};
 
+use std::fmt;
+
 #[derive(Clone, Copy, PartialEq, Eq, Debug)]
 pub enum Refusal {
     // the number of coordinates or of bits is out of range
@@ -18,5 +20,14 @@ impl Refusal {
             Refusal::SpaceRange => 1,
             Refusal::BoxEnds => 4,
         }
+    }
+}
+
+impl fmt::Display for Refusal {
+    fn fmt<W: fmt::Write>(&self, f: &mut fmt::Formatter<W>) -> fmt::Result {
+        f.write_str(match self {
+            Refusal::SpaceRange => "a space has 1 to 4 coordinates of 1 to 15 bits",
+            Refusal::BoxEnds => "a low end lies above its high end",
+        })
     }
 }

@@ -8,13 +8,13 @@ use crate::rule::BitRule;
 use crate::space::Space;
 
 // a bit of each coordinate in turn: bit i of coordinate j at place i * n + j
-#[derive(Clone, Copy)]
+#[derive(Clone, Copy, PartialEq, Eq, Debug)]
 pub struct ZRule {
     pub space: Space,
 }
 
 // one coordinate after the other, coordinate 0 highest
-#[derive(Clone, Copy)]
+#[derive(Clone, Copy, PartialEq, Eq, Debug)]
 pub struct RowRule {
     pub space: Space,
 }
@@ -31,6 +31,10 @@ impl BitRule for ZRule {
     ghost kinds = { Prim.search rules };
 
     ghost deals = { λ s. z_schedule s.space.n s.space.p (s.space.some, s.space.four, s.space.bit, s.space.fifteen) };
+
+    fn over(space: Space) -> ZRule {
+        ZRule { space }
+    }
 
     fn kind(&self) -> u8 {
         1
@@ -67,6 +71,10 @@ impl BitRule for RowRule {
     ghost kinds = { Prim.search rules };
 
     ghost deals = { λ s. row_schedule s.space.n s.space.p (s.space.some, s.space.four, s.space.bit, s.space.fifteen) };
+
+    fn over(space: Space) -> RowRule {
+        RowRule { space }
+    }
 
     fn kind(&self) -> u8 {
         2

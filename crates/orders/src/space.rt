@@ -1,13 +1,13 @@
 // Spaces of at most four coordinates, and boxes.
-ghost use Rattle.std.specs.Prelude.{◌≡◌, ℕ, ◌+◌, ◌-◌, ◌*◌, ◌/◌, ◌%◌, ◌^◌, ◌<◌, ◌≤◌, true, false, length, MatchResult, slice_index};
-ghost use Rattle.orders.specs.Spaces.{Range, InSpace, Ordered};
+ghost use Rattle.std.specs.Prelude.{◌≡◌, ℕ, ◌+◌, ◌-◌, ◌*◌, ◌/◌, ◌%◌, ◌^◌, ◌<◌, ◌≤◌, true, false, length, MatchResult, slice_index, Decides};
+ghost use Rattle.orders.specs.Spaces.{Range, InSpace, Ordered, Within};
 ghost use Rattle.orders.specs.declared.refusal.Refusal.TheVariants.{SpaceRange, BoxEnds};
 
 use crate::point::Point;
 use crate::refusal::Refusal;
 
 // n coordinates of p bits each
-#[derive(Clone, Copy)]
+#[derive(Clone, Copy, PartialEq, Eq, Debug)]
 pub struct Space {
     n: u8,
     p: u8,
@@ -19,7 +19,7 @@ pub struct Space {
 
 // All points between two corners, both included. No box exists whose low end lies above its high end,
 // so nothing that takes a box asks again.
-#[derive(Clone, Copy)]
+#[derive(Clone, Copy, PartialEq, Eq, Debug)]
 pub struct QueryBox {
     low: Point,
     high: Point,
@@ -37,41 +37,38 @@ impl Space {
     }
 
     pub fn n(self) -> u8
-        ensures { (result ≡ self.n) × ((1 ≤ result) × (result ≤ 4)) }
+        ensures same { result ≡ self.n }
+        ensures some { 1 ≤ result }
+        ensures four { result ≤ 4 }
     {
         self.n
     }
 
     pub fn p(self) -> u8
-        ensures { (result ≡ self.p) × ((1 ≤ result) × (result ≤ 15)) }
+        ensures same { result ≡ self.p }
+        ensures bit { 1 ≤ result }
+        ensures fifteen { result ≤ 15 }
     {
         self.p
     }
 
     // how many bits an address has
     pub fn bits(self) -> u32
-        ensures { (result ≡ self.n * self.p) × (result ≤ 60) }
+        ensures product { result ≡ self.n * self.p }
+        ensures sixty { result ≤ 60 }
     {
         self.n as u32 * self.p as u32
     }
 
     pub fn contains(self, x: Point) -> bool
-        ensures yes { result ≡ true → InSpace self.n self.p x.coords }
-        ensures never { result ≡ false → InSpace self.n self.p x.coords → ⊥ }
+        ensures { Decides result (InSpace self.n self.p x.coords) }
     {
-        let coords = x.coords;
         let n = self.n as usize;
         let p = self.p as u32;
-        for j in 0..4usize {
-            if j < n {
-                if (coords[j] >> p) != 0 {
-                    return false;
-                }
-            } else if coords[j] != 0 {
-                return false;
-            }
-        }
-        true
+        x.coords
+            .iter()
+            .enumerate()
+            .all(|(j, c)| if j < n { (*c >> p) == 0 } else { *c == 0 })
     }
 }
 
@@ -79,12 +76,13 @@ impl QueryBox {
     pub fn new(low: Point, high: Point) -> Result<QueryBox, Refusal>
         ensures { MatchResult result (λ b. (b.low ≡ low) × (b.high ≡ high)) (λ f. (f ≡ BoxEnds) × (Ordered low.coords high.coords → ⊥)) }
     {
-        let a = low.coords;
-        let b = high.coords;
-        for j in 0..4usize {
-            if a[j] > b[j] {
-                return Err(Refusal::BoxEnds);
-            }
+        if low
+            .coords
+            .iter()
+            .zip(high.coords.iter())
+            .any(|(a, b)| a > b)
+        {
+            return Err(Refusal::BoxEnds);
         }
         Ok(QueryBox { low, high })
     }
@@ -99,5 +97,22 @@ impl QueryBox {
         ensures { result ≡ self.now.high }
     {
         self.high
+    }
+
+    // whether the point lies in the box
+    pub fn contains(&self, x: Point) -> bool
+        ensures { Decides result (Within self.now.low.coords self.now.high.coords x.coords) }
+    {
+        let above = self
+            .low
+            .coords
+            .iter()
+            .zip(x.coords.iter())
+            .all(|(a, c)| a <= c);
+        above
+            && x.coords
+                .iter()
+                .zip(self.high.coords.iter())
+                .all(|(c, b)| c <= b)
     }
 }

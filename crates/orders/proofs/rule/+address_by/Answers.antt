@@ -26,8 +26,8 @@ returns g t c =
     let turn = o.turn_of s in
     let pos : 0 < c.args.t = omega arith in
     let lt : c.args.t - 1 < bits_of sp = omega arith in
-    let j : c.turn-j.result ≡ turn (c.args.t - 1) = c.turn-j.ensures.0 lt in
+    let j : c.turn-j.result ≡ turn (c.args.t - 1) = c.turn-j.ensures.dealt lt in
     let step = address_step turn c.args.t c.args.x pos in
     let e : c.address_by.result * 2 + get_or c.args.x c.turn-j.result 0 % 2 ≡ address_of turn c.args.t c.args.x = cc in
     let small = address_lt sp.n sp.p turn (o.used_of s) (g.met.R.BitRule.deals s) c.args.t c.args.x in
-    (e, omega arith)
+    record { value = e; below = omega arith }

@@ -1,0 +1,97 @@
+// A block of addresses: all that begin with the same bits. Its points are a box.
+ghost use Rattle.std.specs.Prelude.{◌≡◌, ◌+◌, ◌-◌, ◌*◌, ◌^◌, ◌<◌, ◌≤◌, Decides};
+ghost use Rattle.orders.specs.Interleave.{point_at, lacking, Touches, Hit, Least};
+ghost use Rattle.orders.specs.Interleaved.{bits_of};
+
+use crate::rule::BitRule;
+use crate::space::QueryBox;
+
+// The addresses that begin with the bits c and have `left` bits more; the corner is the point of the bits c.
+#[derive(Drop)]
+pub struct Block<'a, R: BitRule> {
+    rule: &'a R,
+    left: u32,
+    c: u64,
+    corner: [u16; 4],
+    ghost inside: { left ≤ bits_of (R.space_of rule.now) },
+    ghost short: { c < 2 ^ (bits_of (R.space_of rule.now) - left) },
+    ghost at: { corner ≡ point_at (R.turn_of rule.now) (bits_of (R.space_of rule.now) - left) c },
+}
+
+impl<'a, R: BitRule> Block<'a, R> {
+    // all addresses of the space
+    pub fn whole(rule: &'a R) -> Block<'a, R>
+        ensures rule { result.rule.now ≡ rule.now }
+        ensures all { result.left ≡ bits_of (R.space_of rule.now) }
+        ensures start { result.c ≡ 0 }
+    {
+        Block {
+            rule,
+            left: rule.bits(),
+            c: 0,
+            corner: [0; 4],
+        }
+    }
+
+    // the half whose next bit is this one
+    fn half(&self, bit: u16) -> Block<'a, R>
+        requires some { 0 < self.now.left }
+        requires two { bit < 2 }
+        ensures rule { result.rule.now ≡ self.now.rule.now }
+        ensures less { result.left ≡ self.now.left - 1 }
+        ensures bits { result.c ≡ self.now.c * 2 + bit }
+    {
+        let j = self.rule.turn(self.rule.bits() - self.left);
+        let mut corner = self.corner;
+        corner[j] = corner[j] * 2 + bit;
+        Block {
+            rule: self.rule,
+            left: self.left - 1,
+            c: self.c * 2 + bit as u64,
+            corner,
+        }
+    }
+
+    // how many bits the coordinate j still lacks
+    fn lacks(&self, j: usize) -> u32
+        requires { j < 4 }
+        ensures count { let total = bits_of (R.space_of self.now.rule.now) in result ≡ lacking total (R.used_of self.now.rule.now) (total - self.now.left) j }
+        ensures fifteen { result ≤ 15 }
+    {
+        let total = self.rule.bits();
+        self.rule.used(j, total) - self.rule.used(j, total - self.left)
+    }
+
+    // whether the block has a point in common with the box
+    fn touches(&self, b: &QueryBox) -> bool
+        ensures { let total = bits_of (R.space_of self.now.rule.now) in Decides result (Touches (lacking total (R.used_of self.now.rule.now) (total - self.now.left)) b.now.low.coords b.now.high.coords self.now.corner) }
+    {
+        let low = b.low().coords;
+        let high = b.high().coords;
+        for (j, c) in self.corner.iter().enumerate() {
+            let k = self.lacks(j);
+            if (low[j] >> k) > *c || (high[j] >> k) < *c {
+                return false;
+            }
+        }
+        true
+    }
+
+    // The least address of the block at or above `from` whose point is in the box. A block is halved, the lower half
+    // first. A block that touches the box and lies wholly at or above `from` has an answer, so below it only one half is
+    // gone into: the cost is linear in the number of bits.
+    pub fn first(&self, b: &QueryBox, from: u64) -> Option<u64>
+        ensures { Least result (Hit (bits_of (R.space_of self.now.rule.now)) (R.turn_of self.now.rule.now) b.now.low.coords b.now.high.coords from self.now.left self.now.c) }
+    {
+        if !self.touches(b) || (from >> self.left) > self.c {
+            return None;
+        }
+        if self.left == 0 {
+            return Some(self.c);
+        }
+        if let Some(a) = self.half(0).first(b, from) {
+            return Some(a);
+        }
+        self.half(1).first(b, from)
+    }
+}
