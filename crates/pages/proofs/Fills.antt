@@ -2,9 +2,9 @@
 use Rattle.std.proofs.Common.{◌≡◌, ℕ, ◌+◌, ◌-◌, ◌<◌, ◌≤◌, ◌⊎◌, List, [], ◌∷◌, ◌++◌, length, get_or, take, drop, sym, refl, ap, ◌∙◌, subst, inl, inr, arith}
 use Rattle.std.specs.List.{range_with_len, AllByRecursion}
 use Rattle.std.proofs.ByRecursion.{All-get_or, All-weaker}
-use Rattle.std.proofs.lemmas.List.{take-append-drop, drop_more, take_more, take_all, length-take, get_or-take}
+use Rattle.std.proofs.lemmas.List.{take-append-drop, drop_more, take_more, take_all, length-take}
 use Rattle.pages.specs.Skip.{good, places, Rises, Allowed}
-use Rattle.pages.proofs.Goods.{good_rest, good_more, good_rises, good_within, rises_by, rises_apart}
+use Rattle.pages.proofs.Goods.{good_rest, good_more, good_rises, good_within}
 use Rattle.pages.proofs.Rooms.{room_again}
 
 -- the last of some numbers, or low where there is none
@@ -33,19 +33,20 @@ rises_next low b [] rest r = r.0
 rises_next low b (k ∷ ks) rest r = rises_next k b ks rest r.1
 
 -- what the loop knows once it went through the first i numbers
-pub record Gone (bad : List ℕ) (size i last count : ℕ) (ps : List ℕ) : Type 0 where
-  pub few : count ≤ 1024
-  pub long : length ps ≡ 1024
+pub record Gone (bad : List ℕ) (size i last : ℕ) (ps : List ℕ) : Type 0 where
   pub low : last ≤ size
   pub rising : Rises 0 (take i bad)
   pub end : last ≡ final 0 (take i bad)
-  pub filled : take count ps ≡ take 1024 (good (take i bad) last)
+  pub filled : ps ≡ take 1024 (good (take i bad) last)
 
-pub gone_none : (bad ps : List ℕ) (size : ℕ) → length ps ≡ 1024 → Gone bad size 0 0 0 ps
+pub gone_none : (bad ps : List ℕ) (size : ℕ) → ps ≡ [] → Gone bad size 0 0 ps
 unfolding good
-gone_none bad ps size l = record { few = omega arith; long = l; low = omega arith; rising = tt; end = refl; filled = refl }
+gone_none bad ps size e = record { low = omega arith; rising = tt; end = refl; filled = e }
 
-module _ (bad ps : List ℕ) (size i last count : ℕ) (g : Gone bad size i last count ps) where
+module _ (bad ps : List ℕ) (size i last : ℕ) (g : Gone bad size i last ps) where
+  pub gone_few : length ps ≤ 1024
+  gone_few = rw g.filled (omega (arith, length-take 1024 (good (take i bad) last)))
+
   below : AllByRecursion (λ k. k ≤ last) (take i bad)
   below = rw g.end (final_most 0 (take i bad) g.rising)
 
@@ -65,11 +66,8 @@ module _ (bad ps : List ℕ) (size i last count : ℕ) (g : Gone bad size i last
         elim o [ inl n ↦ omega arith | inr n ↦ omega arith ]
 
     -- the next number is bad, and those between are entered
-    pub gone_more : (count' : ℕ) (ps' : List ℕ) → last < b → b ≤ size → count' ≤ 1024 → length ps' ≡ 1024
-        → take count' ps' ≡ take 1024 (take count ps ++ range_with_len (last + 1) (b - 1 - last)) → Gone bad size (i + 1) b count' ps'
-    gone_more count' ps' h s f l e = record {
-      few = f;
-      long = l;
+    pub gone_more : (ps' : List ℕ) → last < b → b ≤ size → ps' ≡ take 1024 (ps ++ range_with_len (last + 1) (b - 1 - last)) → Gone bad size (i + 1) b ps'
+    gone_more ps' h s e = record {
       low = s;
       rising = rw push (rises_push 0 b (take i bad) g.rising (rw (← g.end) h));
       end = sym (ap (final 0) push ∙ final_push 0 b (take i bad));
@@ -78,11 +76,11 @@ module _ (bad ps : List ℕ) (size i last count : ℕ) (g : Gone bad size i last
           ∙ sym (ap (take 1024) (ap (λ (ks : List ℕ). good ks b) push ∙ good_more (take i bad) last b h below));
     }
 
-  module _ (all : length bad ≤ i) (count' : ℕ) (ps' : List ℕ) (e : take count' ps' ≡ take 1024 (take count ps ++ range_with_len (last + 1) (size - last))) where
+  module _ (all : length bad ≤ i) (ps' : List ℕ) (e : ps' ≡ take 1024 (ps ++ range_with_len (last + 1) (size - last))) where
     whole : take i bad ≡ bad
     whole = take_all i bad all
 
-    pub gone_places : take count' ps' ≡ places bad size
+    pub gone_places : ps' ≡ places bad size
     gone_places =
         e ∙ ap (λ (ks : List ℕ). take 1024 (ks ++ range_with_len (last + 1) (size - last))) g.filled
         ∙ room_again 1024 (good (take i bad) last) (range_with_len (last + 1) (size - last))
@@ -97,18 +95,12 @@ module _ (bad ps : List ℕ) (size i last count : ℕ) (g : Gone bad size i last
     }
 
 -- what the table's ghost fields say of the numbers entered
-module _ (bad ps : List ℕ) (size count : ℕ) (l : length ps ≡ 1024) (f : count ≤ 1024) (e : take count ps ≡ places bad size) where
-  within' : (i : ℕ) → i < count → i < length (places bad size)
-  within' i h = rw (← e, length-take count ps) (omega arith)
+module _ (bad ps : List ℕ) (size : ℕ) (e : ps ≡ places bad size) where
+  pub entered_few : length ps ≤ 1024
+  entered_few = rw e (omega (arith, length-take 1024 (good bad size)))
 
-  entered : (i : ℕ) → i < count → get_or ps i 0 ≡ get_or (places bad size) i 0
-  entered i h = sym (get_or-take count ps i 0 h) ∙ ap (λ (ks : List ℕ). get_or ks i 0) e
+  pub entered_rising : Rises 0 ps
+  entered_rising = rw e (good_rises bad size 1024)
 
-  pub entered_positive : (i : ℕ) → i < count → 0 < get_or ps i 0
-  entered_positive i h = rw (entered i h) (rises_by 0 (places bad size) (good_rises bad size 1024) i (within' i h))
-
-  pub entered_within : (i : ℕ) → i < count → get_or ps i 0 ≤ size
-  entered_within i h = rw (entered i h) (All-get_or (λ k. k ≤ size) (places bad size) i 0 (within' i h) (good_within bad size 1024))
-
-  pub entered_rising : (i j : ℕ) → i < j → j < count → get_or ps i 0 < get_or ps j 0
-  entered_rising i j g h = rw (entered i (omega arith), entered j h) (rises_apart 0 (places bad size) (good_rises bad size 1024) i j g (within' j h))
+  pub entered_within : AllByRecursion (λ k. k ≤ size) ps
+  entered_within = rw e (good_within bad size 1024)

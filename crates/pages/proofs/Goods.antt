@@ -5,6 +5,7 @@ use Rattle.std.proofs.lemmas.Bool.{eq-eqb, ne_eqb}
 use Rattle.std.proofs.lemmas.List.Elements.{filter-append}
 use Rattle.std.proofs.ByRecursion.{All-weaker, all_kept_by}
 use Rattle.pages.specs.Skip.{among, good, Rises}
+use Rattle.pages.specs.Sizes.{rises_by}
 
 -- numbers from a on, in two runs
 counting_split : (a n k : ℕ) → range_with_len a (n + k) ≡ range_with_len a n ++ range_with_len (a + n) k
@@ -111,11 +112,6 @@ good_within bad n m =
     (All-weaker (λ k. k < n + 1) (λ k. k ≤ n) (λ k l. omega arith) (range_with_len 1 n) (counting_below (n + 1) 1 n (omega arith))))
 
 -- by places: the later number is the greater
-pub rises_by : (low : ℕ) (ks : List ℕ) → Rises low ks → (i : ℕ) → i < length ks → low < get_or ks i 0
-rises_by low [] r i h = absurd (omega arith)
-rises_by low (k ∷ ks) r zero h = r.0
-rises_by low (k ∷ ks) r (suc i) h = let g = rises_by k ks r.1 i (omega arith) in omega arith
-
 pub rises_apart : (low : ℕ) (ks : List ℕ) → Rises low ks → (i j : ℕ) → i < j → j < length ks → get_or ks i 0 < get_or ks j 0
 rises_apart low [] r i j g h = absurd (omega arith)
 rises_apart low (k ∷ ks) r i zero g h = absurd (omega arith)

@@ -3,6 +3,7 @@ pub mod Cut
 pub mod Turn
 pub mod Skip
 pub mod Making
+pub mod Text
 pub mod Table
 pub mod Sizes
 pub mod History

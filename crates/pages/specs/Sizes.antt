@@ -1,11 +1,13 @@
 -- The proofs that the ghost member `sized` of the stores hands over: at most 65,535 pages of 128 bytes each, and a charge of 32 bits.
-use Rattle.std.specs.Prelude.{◌≡◌, ℕ, zero, suc, ◌+◌, ◌-◌, ◌*◌, ◌/◌, ◌^◌, ◌<◌, ◌≤◌, Bool, true, false, cond, List, [], ◌∷◌, map, length, get_or, take, drop, nat_le, slice_index, slice_index_or, refl}
+use Rattle.std.specs.Prelude.{◌≡◌, ℕ, zero, suc, ◌+◌, ◌-◌, ◌*◌, ◌/◌, ◌^◌, ◌<◌, ◌≤◌, Bool, true, false, cond, List, [], ◌∷◌, map, length, take, drop, nat_le, slice_index, slice_index_or, refl}
 use Rattle.std.proofs.Common.{ap, sym, ◌∙◌, div-mul-le_self, arith}
-use Rattle.std.proofs.lemmas.List.{drop-drop, length-take-le, length-drop, length-map, length-take, get_or-map, get_or-take}
+use Rattle.std.proofs.lemmas.List.{drop-drop, length-take-le, length-drop, length-map, get_or-map}
 use Rattle.std.proofs.lemmas.Bool.{leb-true}
+use Rattle.std.proofs.ByRecursion.{All-get_or}
 use Rattle.pages.specs.Image.{Image, Sized, at}
 use Rattle.pages.specs.Cut.{cut, number, held}
 use Rattle.pages.specs.Turn.{turn, turned}
+use Rattle.pages.specs.Skip.{Rises}
 use Rattle.pages.specs.Table.{places_in, seen}
 use Rattle.pages.specs.declared.table.SkipTable.{SkipTable}
 
@@ -61,22 +63,26 @@ turned_sized m s = record {
   carried = s.carried;
 }
 
+-- each of the numbers that rise from low on lies above it
+pub rises_by : (low : ℕ) (ks : List ℕ) → Rises low ks → (i : ℕ) → i < length ks → low < slice_index ks i
+rises_by low [] r i h = absurd (omega arith)
+rises_by low (k ∷ ks) r zero h = r.0
+rises_by low (k ∷ ks) r (suc i) h = let g = rises_by k ks r.1 i (omega arith) in omega arith
+
 -- a layer that skips pages is sized where its table fits the store below, and has no page elsewhere
 seen_pages : (t : SkipTable) (m : Image) (b : Bool) → Sized m → nat_le t.reach (length m.pages) ≡ b
     → Sized (record { pages = cond b (map (at m) (places_in t)) []; charge = m.charge })
 seen_pages t m false s e = record { few = omega arith; long = λ p h. absurd (omega arith); carried = s.carried }
 seen_pages t m true s e =
-    let n : length (map (at m) (places_in t)) ≡ t.count =
-    length-map (places_in t) (at m) ∙ length-take t.count t.places ∙ omega (arith, t.few, t.long) in
+    let n : length (map (at m) (places_in t)) ≡ length (places_in t) = length-map (places_in t) (at m) in
     record {
       few = rw n (omega (arith, t.few));
       long = λ p h.
-          let i : p - 1 < t.count = omega (arith, n, h) in
-          let j : p - 1 < length (places_in t) = rw (length-take t.count t.places) (omega (arith, t.few, t.long)) in
-          let k : get_or (places_in t) (p - 1) 0 ≡ get_or t.places (p - 1) 0 = get_or-take t.count t.places (p - 1) 0 i in
+          let i : p - 1 < length (places_in t) = omega (arith, n, h) in
+          let z = rises_by 0 (places_in t) t.rising (p - 1) i in
+          let w : slice_index (places_in t) (p - 1) ≤ t.reach = All-get_or (λ k. k ≤ t.reach) (places_in t) (p - 1) 0 i t.within in
           let r = leb-true t.reach (length m.pages) e in
-          ap length (get_or-map (at m) (places_in t) (p - 1) 0 [] j) ∙ ap (λ (q : ℕ). length (at m q)) k
-          ∙ s.long (slice_index t.places (p - 1)) (t.positive (p - 1) i, omega (arith, t.within (p - 1) i));
+          ap length (get_or-map (at m) (places_in t) (p - 1) 0 [] i) ∙ s.long (slice_index (places_in t) (p - 1)) (z, omega arith);
       carried = s.carried;
     }
 

@@ -1,5 +1,7 @@
 -- The skip layer: the bad pages of the store below are left out; the layer's pages are the others, in their order.
-use Rattle.std.specs.Prelude.{◌≡◌, ℕ, ◌<◌, ◌≤◌, Bool, true, false, cond, not, List, [], ◌∷◌, map, length, take, filter, ◌==◌, nat_le}
+use Rattle.std.specs.Prelude.{◌≡◌, ℕ, ◌<◌, ◌≤◌, Bool, true, false, cond, not, List, [], ◌∷◌, map, length, take, filter, ◌==◌, nat_le, refl}
+use mathlib.Core.HLevel.{Σ_prop}
+use native.Mathlib.Bridge.{le_prop}
 use Rattle.std.specs.List.{range_with_len, AllByRecursion}
 use Rattle.pages.specs.Image.{Image, at}
 
@@ -20,6 +22,11 @@ places bad n = take 1024 (good bad n)
 abbrev pub Rises : ℕ → List ℕ → Type 0
 Rises low [] = Unit {0}
 Rises low (k ∷ ks) = (low < k) × Rises k ks
+
+-- which is a fact with one proof at most
+pub rises_prop : (low : ℕ) (ks : List ℕ) → IsProp (Rises low ks)
+rises_prop low [] = λ a b. refl
+rises_prop low (k ∷ ks) = Σ_prop le_prop (λ _. rises_prop k ks)
 
 -- the question before the making: are there 1 to 64 bad numbers, strictly rising, all pages of a store of n?
 pub record Allowed (bad : List ℕ) (n : ℕ) : Type 0 where

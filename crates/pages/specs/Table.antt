@@ -1,5 +1,5 @@
 -- The table of a skip layer.
-use Rattle.std.specs.Prelude.{◌≡◌, ℕ, ◌-◌, ◌<◌, ◌≤◌, cond, ◌⊎◌, List, take, Some, None, Ok, Err, Option, Result, nat_le, slice_index}
+use Rattle.std.specs.Prelude.{◌≡◌, ℕ, ◌-◌, ◌<◌, ◌≤◌, cond, ◌⊎◌, List, length, Some, None, Ok, Err, Option, Result, nat_le, slice_index}
 use Rattle.pages.specs.declared.table.SkipTable.{SkipTable}
 use Rattle.pages.specs.declared.making.MakingFault.{MakingFault}
 use Rattle.pages.specs.declared.making.MakingFault.TheVariants.{BadPages}
@@ -10,7 +10,7 @@ use Rattle.pages.specs.Skip.{Allowed, places, placed_within}
 
 -- the numbers that the table holds
 abbrev pub places_in : SkipTable → List ℕ
-places_in t = take t.count t.places
+places_in t = t.places.items
 
 -- what a layer with this table means over a store of meaning m
 abbrev pub seen : SkipTable → Image → Image
@@ -18,11 +18,11 @@ seen t m = placed_within t.reach (places_in t) m
 
 -- how many pages the layer has over a store of n pages
 abbrev pub counted : SkipTable → ℕ → ℕ
-counted t n = cond (nat_le t.reach n) t.count 0
+counted t n = cond (nat_le t.reach n) (length (places_in t)) 0
 
 -- where the page p of the layer lies in a store of n pages
 abbrev pub Finds : SkipTable → ℕ → ℕ → Result ℕ StoreFault → Type 0
-Finds t n p (Ok k) = (0 < p) × (p ≤ counted t n) × (k ≡ slice_index t.places (p - 1))
+Finds t n p (Ok k) = (0 < p) × (p ≤ counted t n) × (k ≡ slice_index (places_in t) (p - 1))
 Finds t n p (Err Absent) = (p ≡ 0) ⊎ (counted t n < p)
 Finds t n p (Err Uncharged) = ⊥
 

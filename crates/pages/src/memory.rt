@@ -19,8 +19,7 @@ pub struct MemoryStore<'a> {
 fn number_in(len: usize) -> u16
     ensures { result ≡ number len }
 {
-    let whole = len / 128;
-    if whole < 65535 { whole as u16 } else { 65535 }
+    (len / 128).min(65535) as u16
 }
 
 impl<'a> MemoryStore<'a> {

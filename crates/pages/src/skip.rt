@@ -20,10 +20,9 @@ pub struct Skip<S> {
 pub fn skip_allowed(bad: &[u16], size: u16) -> Result<(), MakingFault>
     ensures { Answers bad.now size result }
 {
-    match SkipTable::without(bad, size) {
-        Some(_) => Ok(()),
-        None => Err(MakingFault::BadPages),
-    }
+    SkipTable::without(bad, size)
+        .map(|_| ())
+        .ok_or(MakingFault::BadPages)
 }
 
 // Bad pages 2 and 5 of 6 leave 1, 3, 4, 6.
@@ -39,10 +38,7 @@ impl<S: PageStore> Skip<S> {
         ensures below { result.below ≡ below }
         ensures made { Skips bad.now (S.meaning below) (seen result.table (S.meaning result.below)) }
     {
-        let table = match SkipTable::without(bad, below.size()) {
-            Some(table) => table,
-            None => SkipTable::none(),
-        };
+        let table = SkipTable::without(bad, below.size()).unwrap_or_else(SkipTable::none);
         Skip { below, table }
     }
 

@@ -1,16 +1,18 @@
-ghost use Rattle.std.specs.Prelude.{◌≡◌, ℕ, ◌<◌, ◌≤◌, length, slice_index};
+ghost use Rattle.std.specs.Prelude.{◌≤◌, length};
+ghost use Rattle.std.specs.List.{AllByRecursion, AllByRecursion-prop};
+ghost use Rattle.pages.specs.Skip.{Rises, rises_prop};
+ghost use native.Mathlib.Bridge.{le_prop};
+
+use arrayvec::ArrayVec;
 
 pub mod filling;
 
 // Where the pages of a skip layer lie in a store of at least `reach` pages: page p at `places[p - 1]`.
 #[derive(Drop)]
 pub struct SkipTable {
-    places: [u16; 1024],
-    count: u16,
+    places: ArrayVec<u16, 1024>,
     reach: u16,
-    ghost long: { length places ≡ 1024 },
-    ghost few: { count ≤ 1024 },
-    ghost positive: { (i : ℕ) → i < count → 0 < slice_index places i },
-    ghost within: { (i : ℕ) → i < count → slice_index places i ≤ reach },
-    ghost rising: { (i j : ℕ) → i < j → j < count → slice_index places i < slice_index places j },
+    ghost few: { length places.items ≤ 1024 },
+    ghost rising: { Rises 0 places.items } by { rises_prop 0 places.items },
+    ghost within: { AllByRecursion (λ k. k ≤ reach) places.items } by { AllByRecursion-prop _ (λ _. le_prop) places.items },
 }

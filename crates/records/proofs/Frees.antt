@@ -1,10 +1,12 @@
 -- A free list by its numbers.
-use Rattle.std.proofs.Common.{◌≡◌, ℕ, ◌+◌, ◌-◌, ◌≤◌, true, List, ◌∷◌, length, get_or, set, Some, sym, refl, ap, ◌∙◌, subst, arith}
+use Rattle.std.proofs.Common.{◌≡◌, ℕ, ◌+◌, ◌-◌, ◌≤◌, true, false, not, eqb, List, ◌∷◌, length, get_or, set, Some, Ok, sym, refl, ap, ◌∙◌, subst, inl, inr, arith}
+use Rattle.std.specs.Bool.{then_some}
+use Rattle.std.proofs.lemmas.Bool.{cases_eq, eq-eqb, ne_eqb}
 use mathlib.Core.Logic.{∥∥₁_elim}
 use Rattle.records.specs.declared.free.FreeList.{FreeList}
-use Rattle.records.specs.Chain.{Absent, Distinct, Within, Chained, walk, Takes, Puts}
+use Rattle.records.specs.Chain.{Absent, Distinct, Within, Chained, walk, Fronts, Takes, Puts}
 use Rattle.records.specs.Free.{numbers}
-use Rattle.records.proofs.Links.{chained_prop, walk_is, Kept, kept_low, fewer, Taken, taken, take, put}
+use Rattle.records.proofs.Links.{chained_prop, walk_is, Kept, kept_low, fewer, front_none, front_some, first, take, put}
 
 pub kept : (f : FreeList) → Kept f.next f.front f.count (numbers f)
 unfolding numbers
@@ -44,28 +46,29 @@ numbers_within f = (kept f).chained.1.0
 pub numbers_few : (f : FreeList) → length (numbers f) ≤ 1025
 numbers_few f = let h = fewer (numbers f) (numbers_within f) (numbers_distinct f) in omega arith
 
--- the front taken, of a list that has one
-module _ (f : FreeList) (z : f.front ≡ 0 → ⊥) where
-  left : List ℕ
-  left = (taken f.next f.front f.count (numbers f) (kept f) z).0
+pub front_is : (f : FreeList) → Fronts (then_some (not (eqb f.front 0)) f.front) (numbers f)
+front_is f =
+    elim (cases_eq f.front 0) [
+      | inl e ↦ (let t : eqb f.front 0 ≡ true = eq-eqb f.front 0 e in rw t (front_none _ _ _ _ (kept f) e))
+      | inr d ↦ (let t : eqb f.front 0 ≡ false = ne_eqb f.front 0 d in rw t (front_some _ _ _ _ (kept f) d))
+    ]
 
-  facts : Taken f.next f.front f.count (numbers f) (kept f) left
-  unfolding left
-  facts = (taken f.next f.front f.count (numbers f) (kept f) z).1
-
+-- the first number k taken
+module _ (f : FreeList) (k : ℕ) (ys : List ℕ) (e : numbers f ≡ k ∷ ys) where
   pub some : 1 ≤ f.count
-  some = let e : f.count ≡ length (f.front ∷ left) = (kept f).counted ∙ ap length facts.front in omega arith
+  some = let c : f.count ≡ length (k ∷ ys) = (kept f).counted ∙ ap length e in omega arith
 
-  after : Kept (set f.next f.front 65535) (get_or f.next f.front 0) (f.count - 1) left
-  after = take f.next f.front f.count (numbers f) (kept f) left facts (f.count - 1) (omega (arith, some))
+  after : Kept (set f.next k 65535) (get_or f.next k 0) (f.count - 1) ys
+  after = take f.next f.front f.count (numbers f) (kept f) k ys e (f.count - 1) (omega (arith, some))
 
-  pub take_ghosts : Ghosts (set f.next f.front 65535) (get_or f.next f.front 0) (f.count - 1) (walk 1026 (set f.next f.front 65535) (get_or f.next f.front 0))
-  take_ghosts = ghosts (set f.next f.front 65535) (get_or f.next f.front 0) (f.count - 1) left after
+  pub take_ghosts : Ghosts (set f.next k 65535) (get_or f.next k 0) (f.count - 1) (walk 1026 (set f.next k 65535) (get_or f.next k 0))
+  take_ghosts = ghosts (set f.next k 65535) (get_or f.next k 0) (f.count - 1) ys after
 
-  pub takes : (f' : FreeList) → f'.next ≡ set f.next f.front 65535 → f'.front ≡ get_or f.next f.front 0 → Takes (numbers f) (Some f.front) (numbers f')
+  pub takes : (f' : FreeList) → f'.next ≡ set f.next k 65535 → f'.front ≡ get_or f.next k 0 → Takes (numbers f) (Some k) (numbers f')
   takes f' a b =
-      let e : numbers f' ≡ left = numbers_moved f' (set f.next f.front 65535) (get_or f.next f.front 0) left a b after.chained in
-      (facts.positive, facts.within, rw e facts.absent, facts.front ∙ ap (λ (ys : List ℕ). f.front ∷ ys) (sym e))
+      let i : numbers f' ≡ ys = numbers_moved f' (set f.next k 65535) (get_or f.next k 0) ys a b after.chained in
+      let c = first f.next f.front f.count (numbers f) (kept f) k ys e in
+      (c.1.0.0.0, c.1.0.0.1, rw i c.1.1.0, e ∙ ap (λ (zs : List ℕ). k ∷ zs) (sym i))
 
 -- a number put to the front, that the list can hold and has not
 module _ (f : FreeList) (k : ℕ) (p : k ≡ 0 → ⊥) (h : k ≤ 1025) (o : get_or f.next k 0 ≡ 65535) where
@@ -75,7 +78,7 @@ module _ (f : FreeList) (k : ℕ) (p : k ≡ 0 → ⊥) (h : k ≤ 1025) (o : ge
   pub put_ghosts : Ghosts (set f.next k f.front) k (f.count + 1) (walk 1026 (set f.next k f.front) k)
   put_ghosts = ghosts (set f.next k f.front) k (f.count + 1) (k ∷ numbers f) fresh.0
 
-  pub puts : (f' : FreeList) → f'.next ≡ set f.next k f.front → f'.front ≡ k → Puts k (numbers f) true (numbers f')
+  pub puts : (f' : FreeList) → f'.next ≡ set f.next k f.front → f'.front ≡ k → Puts k (numbers f) (Ok tt) (numbers f')
   puts f' a b = (omega arith, h, fresh.1, numbers_moved f' (set f.next k f.front) k (k ∷ numbers f) a b fresh.0.chained)
 
 -- a number that the list has

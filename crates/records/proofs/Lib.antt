@@ -2,5 +2,4 @@ pub mod Pigeons
 pub mod Links
 pub mod Frees
 pub mod Rising
-pub mod Trays
 pub mod Peeks

@@ -1,13 +1,13 @@
 -- Chains in a table.
-use Rattle.std.proofs.Common.{◌≡◌, ℕ, zero, suc, ◌+◌, ◌<◌, ◌≤◌, true, false, eqb, ◌≢◌, List, [], ◌∷◌, length, get_or, set, replicate, sym, refl, ap, ◌∙◌, subst, inl, inr, arith, get_or-set_other, get_or-set_same}
+use Rattle.std.proofs.Common.{◌≡◌, ℕ, zero, suc, ◌+◌, ◌<◌, ◌≤◌, true, false, eqb, ◌≢◌, List, [], ◌∷◌, length, get_or, set, replicate, Some, sym, refl, ap, ◌∙◌, subst, inl, inr, arith, get_or-set_other, get_or-set_same}
 use mathlib.Core.HLevel.{hedberg, Σ_prop, →_prop, ⊥_prop}
 use native.Mathlib.Decide.{ℕ_discrete}
 use native.Mathlib.Bridge.{le_prop}
-use Rattle.std.specs.List.{AllByRecursion}
+use Rattle.std.specs.List.{AllByRecursion, AllByRecursion-prop}
 use Rattle.std.proofs.ByRecursion.{All-weaker}
 use Rattle.std.proofs.lemmas.Bool.{cases_eq, eq-eqb, ne_eqb}
 use Rattle.std.proofs.lemmas.List.{get_or-replicate, length-set}
-use Rattle.records.specs.Chain.{Absent, Distinct, Within, Linked, Chained, walk}
+use Rattle.records.specs.Chain.{Absent, Distinct, Within, Linked, Chained, walk, Fronts}
 use Rattle.records.proofs.Pigeons.{pigeons}
 
 -- to be chained is a fact with one proof at most
@@ -16,12 +16,10 @@ linked_prop next f [] = hedberg ℕ_discrete _ _
 linked_prop next f (x ∷ xs) = Σ_prop (hedberg ℕ_discrete _ _) (λ _. linked_prop next (get_or next x 0) xs)
 
 within_prop : (xs : List ℕ) → IsProp (Within xs)
-within_prop [] = λ a b. refl
-within_prop (x ∷ xs) = Σ_prop (Σ_prop le_prop (λ _. le_prop)) (λ _. within_prop xs)
+within_prop xs = AllByRecursion-prop _ (λ x. Σ_prop le_prop (λ _. le_prop)) xs
 
 absent_prop : (k : ℕ) (xs : List ℕ) → IsProp (Absent k xs)
-absent_prop k [] = λ a b. refl
-absent_prop k (x ∷ xs) = Σ_prop (→_prop ⊥_prop) (λ _. absent_prop k xs)
+absent_prop k xs = AllByRecursion-prop _ (λ x. →_prop ⊥_prop) xs
 
 distinct_prop : (xs : List ℕ) → IsProp (Distinct xs)
 distinct_prop [] = λ a b. refl
@@ -99,39 +97,25 @@ module _ (next : List ℕ) (f n : ℕ) (xs : List ℕ) (s : Kept next f n xs) wh
   pub front_none : f ≡ 0 → xs ≡ []
   front_none e = elim xs as (λ (ys : List ℕ). Chained next f ys → ys ≡ []) [ [] ↦ (λ c. refl) | y ∷ ys ↦ (λ c. absurd (let z = c.1.0.0.0 in let q = c.0.0 in omega arith)) ] s.chained
 
-  pub record Taken (ys : List ℕ) : Type 0 where
-    pub positive : 1 ≤ f
-    pub within : f ≤ 1025
-    pub absent : Absent f ys
-    pub front : xs ≡ f ∷ ys
-    pub left : Chained next (get_or next f 0) ys
+  pub front_some : (f ≡ 0 → ⊥) → Fronts (Some f) xs
+  front_some z = (omega arith, kept_low next f n xs s, elim xs as (λ (zs : List ℕ). Chained next f zs → (ys : List ℕ) × (zs ≡ f ∷ ys)) [ [] ↦ (λ c. absurd (z c.0)) | y ∷ ys ↦ (λ c. (ys, ap (λ (j : ℕ). j ∷ ys) (sym c.0.0))) ] s.chained)
 
-  abbrev Split : List ℕ → Type 0
-  Split zs = (ys : List ℕ) × (zs ≡ f ∷ ys) × Absent f ys × Chained next (get_or next f 0) ys
+  -- the first number k taken
+  module _ (k : ℕ) (ys : List ℕ) (e : xs ≡ k ∷ ys) where
+    pub first : Chained next f (k ∷ ys)
+    first = subst (Chained next f) e s.chained
 
-  split : (zs : List ℕ) → (f ≡ 0 → ⊥) → Chained next f zs → Split zs
-  split [] z c = absurd (z c.0)
-  split (y ∷ ys) z c =
-      let q : f ≡ y = c.0.0 in
-      (ys, ap (λ (j : ℕ). j ∷ ys) (sym q), rw q c.1.1.0, (rw q c.0.1, (c.1.0.1, c.1.1.1)))
-
-  pub taken : (f ≡ 0 → ⊥) → (ys : List ℕ) × Taken ys
-  taken z =
-      let p = split xs z s.chained in
-      (p.0, record { positive = omega arith; within = kept_low next f n xs s; absent = p.2; front = p.1; left = p.3 })
-
-  -- the front taken
-  pub take : (ys : List ℕ) → Taken ys → (n' : ℕ) → n ≡ n' + 1 → Kept (set next f 65535) (get_or next f 0) n' ys
-  take ys t n' e = record {
-    long = length-set next f 65535 ∙ s.long;
-    chained = (linked_set next (get_or next f 0) ys f 65535 t.absent t.left.0, t.left.1);
-    counted = (let c : n ≡ length (f ∷ ys) = s.counted ∙ ap length t.front in omega arith);
-    loose = λ k h m a.
-        elim (cases_eq k f) [
-          | inl q ↦ m (ap (λ (j : ℕ). get_or (set next f 65535) j 0) q ∙ get_or-set_same next f 65535 0 (omega (arith, s.long, t.within)))
-          | inr d ↦ s.loose k h (λ o. m (get_or-set_other next f k 65535 0 d ∙ o)) (subst (Absent k) (sym t.front) (λ o. d (sym o), a))
-        ];
-  }
+    pub take : (n' : ℕ) → n ≡ n' + 1 → Kept (set next k 65535) (get_or next k 0) n' ys
+    take n' o = record {
+      long = length-set next k 65535 ∙ s.long;
+      chained = (linked_set next (get_or next k 0) ys k 65535 first.1.1.0 first.0.1, (first.1.0.1, first.1.1.1));
+      counted = (let c : n ≡ length (k ∷ ys) = s.counted ∙ ap length e in omega arith);
+      loose = λ i h m a.
+          elim (cases_eq i k) [
+            | inl q ↦ m (ap (λ (j : ℕ). get_or (set next k 65535) j 0) q ∙ get_or-set_same next k 65535 0 (omega (arith, s.long, first.1.0.0.1)))
+            | inr d ↦ s.loose i h (λ u. m (get_or-set_other next k i 65535 0 d ∙ u)) (subst (Absent i) (sym e) (λ u. d (sym u), a))
+          ];
+    }
 
   -- a number put to the front
   pub put : (k n' : ℕ) → 1 ≤ k → k ≤ 1025 → get_or next k 0 ≡ 65535 → n' ≡ n + 1 → Kept (set next k f) k n' (k ∷ xs) × Absent k xs

@@ -1,5 +1,5 @@
 -- Following a chain from its front.
-use Rattle.std.proofs.Common.{◌≡◌, ℕ, zero, suc, ◌+◌, ◌<◌, ◌≤◌, List, [], ◌∷◌, length, get_or, drop, Some, None, sym, refl, ap, add-one, arith}
+use Rattle.std.proofs.Common.{◌≡◌, ℕ, zero, suc, ◌+◌, ◌<◌, ◌≤◌, List, [], ◌∷◌, length, get_or, drop, Some, sym, ap, add-one, arith}
 use Rattle.std.specs.List.{slice_get}
 use Rattle.records.specs.Chain.{Linked, Within}
 
@@ -23,9 +23,3 @@ from_front next xs k w l = record { linked = l; here = begins next xs 0 k w l }
 
 pub from_next : (next xs : List ℕ) (j k : ℕ) → Within xs → From next xs j k → j < length xs → From next xs (j + 1) (get_or next k 0)
 from_next next xs j k w f lt = rw (add-one j) (record { linked = goes_on next xs j k f.linked lt; here = begins next xs (suc j) (get_or next k 0) w (goes_on next xs j k f.linked lt) })
-
-pub past_end : (xs : List ℕ) (i : ℕ) → length xs ≤ i → None ≡ slice_get xs i
-past_end [] zero le = refl
-past_end [] (suc i) le = refl
-past_end (x ∷ xs) zero le = absurd (omega arith)
-past_end (x ∷ xs) (suc i) le = past_end xs i (omega arith)

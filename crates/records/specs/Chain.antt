@@ -1,5 +1,5 @@
 -- Numbers that are chained by a table: the table has at each number the one after it, and 0 ends the chain.
-use Rattle.std.specs.Prelude.{◌≡◌, ℕ, zero, suc, ◌≤◌, Bool, true, false, cond, not, List, [], ◌∷◌, Some, None, filter, Option, ◌==◌, ◌≢◌, slice_index, slice_index_or}
+use Rattle.std.specs.Prelude.{◌≡◌, ℕ, zero, suc, ◌≤◌, Bool, false, cond, not, List, [], ◌∷◌, Some, None, Ok, Err, filter, Option, Result, ◌==◌, ◌≢◌, slice_index, slice_index_or}
 use Rattle.std.specs.List.{range_with_len, AllByRecursion}
 
 -- k is none of these numbers
@@ -43,7 +43,7 @@ abbrev pub Takes : List ℕ → Option ℕ → List ℕ → Type 0
 Takes xs (Some k) ys = (1 ≤ k) × (k ≤ 1025) × Absent k ys × (xs ≡ k ∷ ys)
 Takes xs None ys = (xs ≡ []) × (ys ≡ [])
 
--- k put to the front of the numbers xs: refused where it is no number from 1 to 1,025 or is one of them
-abbrev pub Puts : ℕ → List ℕ → Bool → List ℕ → Type 0
-Puts k xs true ys = (1 ≤ k) × (k ≤ 1025) × Absent k xs × (ys ≡ k ∷ xs)
-Puts k xs false ys = (1 ≤ k → k ≤ 1025 → Absent k xs → ⊥) × (ys ≡ xs)
+-- k put to the front of the numbers xs: refused, and given back, where it is no number from 1 to 1,025 or is one of them
+abbrev pub Puts : ℕ → List ℕ → Result (Unit {0}) ℕ → List ℕ → Type 0
+Puts k xs (Ok _) ys = (1 ≤ k) × (k ≤ 1025) × Absent k xs × (ys ≡ k ∷ xs)
+Puts k xs (Err j) ys = (j ≡ k) × (1 ≤ k → k ≤ 1025 → Absent k xs → ⊥) × (ys ≡ xs)

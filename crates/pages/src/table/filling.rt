@@ -1,28 +1,24 @@
-ghost use Rattle.std.specs.Prelude.{◌≡◌, ℕ, ◌+◌, ◌-◌, ◌<◌, ◌≤◌, [], ◌++◌, take};
+ghost use Rattle.std.specs.Prelude.{◌≡◌, ℕ, ◌+◌, ◌-◌, ◌≤◌, [], ◌++◌, take};
 ghost use Rattle.std.specs.List.{range_with_len};
+ghost use Rattle.arrayvec.specs.ArrayVec.{array_vec_len};
 ghost use Rattle.pages.specs.Table.{places_in, Tabulates, counted, Finds};
 
 use crate::fault::StoreFault;
 use crate::table::SkipTable;
+use arrayvec::ArrayVec;
 
 // At most so many pages may be bad.
 const MOST_BAD: usize = 64;
 
-// Puts the numbers past `after` up to `upto` behind the first `count`, as many as there is room for; gives the count then.
-fn fill(places: &mut [u16; 1024], count: u16, after: u16, upto: u16) -> u16
-    requires few { count ≤ 1024 }
+// Puts the numbers past `after` up to `upto` behind the others, as many as there is room for.
+fn fill(places: &mut ArrayVec<u16, 1024>, after: u16, upto: u16)
+    requires few { array_vec_len places.old ≤ 1024 }
     requires order { after ≤ upto }
-    ensures few { result ≤ 1024 }
-    ensures filled { take result places.new ≡ take 1024 (take count places.old ++ range_with_len (after + 1) (upto - after)) }
+    ensures { places.new.items ≡ take 1024 (places.old.items ++ range_with_len (after + 1) (upto - after)) }
 {
-    let mut n = count;
     for k in after..upto {
-        if n < 1024 {
-            places[n as usize] = k + 1;
-            n += 1;
-        }
+        let _ = places.try_push(k + 1);
     }
-    n
 }
 
 impl SkipTable {
@@ -31,8 +27,7 @@ impl SkipTable {
         ensures { places_in result ≡ [] }
     {
         SkipTable {
-            places: [0; 1024],
-            count: 0,
+            places: ArrayVec::new(),
             reach: 0,
         }
     }
@@ -44,20 +39,18 @@ impl SkipTable {
         if bad.is_empty() || bad.len() > MOST_BAD {
             return None;
         }
-        let mut places = [0; 1024];
-        let mut count = 0;
+        let mut places = ArrayVec::new();
         let mut last = 0;
-        for b in bad {
-            if *b <= last || *b > size {
+        for &b in bad {
+            if b <= last || b > size {
                 return None;
             }
-            count = fill(&mut places, count, last, *b - 1);
-            last = *b;
+            fill(&mut places, last, b - 1);
+            last = b;
         }
-        count = fill(&mut places, count, last, size);
+        fill(&mut places, last, size);
         Some(SkipTable {
             places,
-            count,
             reach: size,
         })
     }
@@ -66,7 +59,11 @@ impl SkipTable {
     pub(crate) fn count_over(&self, size: u16) -> u16
         ensures { result ≡ counted self.now size }
     {
-        if self.reach <= size { self.count } else { 0 }
+        if self.reach <= size {
+            self.places.len() as u16
+        } else {
+            0
+        }
     }
 
     // Where page `page` of the layer lies in a store of `size` pages.

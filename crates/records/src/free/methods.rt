@@ -33,21 +33,14 @@ impl FreeList {
     pub fn front(&self) -> Option<u16>
         ensures { Fronts result (numbers self.now) }
     {
-        if self.front == 0 {
-            None
-        } else {
-            Some(self.front)
-        }
+        (self.front != 0).then_some(self.front)
     }
 
     // Takes the first number.
     pub fn take_front(&mut self) -> Option<u16>
         ensures { Takes (numbers self.old) result (numbers self.new) }
     {
-        let k = self.front;
-        if k == 0 {
-            return None;
-        }
+        let k = self.front()?;
         let after = self.next[k as usize];
         self.next[k as usize] = LOOSE;
         self.front = after;
@@ -55,30 +48,28 @@ impl FreeList {
         Some(k)
     }
 
-    // Puts a number to the front; refuses one that the list cannot hold or has.
-    pub fn put_front(&mut self, k: u16) -> bool
+    // Puts a number to the front; gives back one that the list cannot hold or has.
+    pub fn put_front(&mut self, k: u16) -> Result<(), u16>
         ensures { Puts k (numbers self.old) result (numbers self.new) }
     {
         if k == 0 || k > GREATEST || self.next[k as usize] != LOOSE {
-            return false;
+            return Err(k);
         }
         let old = self.front;
         self.next[k as usize] = old;
         self.front = k;
         self.count += 1;
-        true
+        Ok(())
     }
 
     // The numbers from `first` to `last` that are not marked, rising; those that a list cannot hold are left out.
     pub fn rising(first: u16, last: u16, marks: &[bool; 1026]) -> FreeList
         ensures { numbers result ≡ unmarked marks.now (max first 1) (min last 1025 + 1 - max first 1) }
     {
-        let low = if first == 0 { 1 } else { first };
-        let high = if last > GREATEST { GREATEST } else { last };
+        let low = first.max(1);
+        let high = last.min(GREATEST);
         let mut list = FreeList::none();
-        let mut k = if high < low { low } else { high + 1 };
-        while k > low {
-            k -= 1;
+        for k in (low..=high).rev() {
             if !marks[k as usize] {
                 let _ = list.put_front(k);
             }

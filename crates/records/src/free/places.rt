@@ -14,7 +14,7 @@ impl FreeList {
             return None;
         }
         let mut k = self.front;
-        for j in 0..place {
+        for _ in 0..place {
             k = self.next[k as usize];
         }
         Some(k)

@@ -32,7 +32,7 @@ impl<'a, T: Drop> Tray<'a, T> {
     pub fn records(&self) -> &[T]
         ensures { result.now ≡ first self.now.memory.now self.now.used }
     {
-        &self.memory[0..self.used]
+        &self.memory[..self.used]
     }
 
     // Puts a record behind the others, or gives it back where the tray is full.
@@ -55,10 +55,7 @@ impl<T: Copy> Tray<'_, T> {
         ensures pop { Lifts self.old.memory.now self.old.used result self.new.memory.now self.new.used }
         ensures lent { self.new.memory.ghost_name ≡ self.old.memory.ghost_name }
     {
-        if self.used == 0 {
-            return None;
-        }
-        self.used -= 1;
+        self.used = self.used.checked_sub(1)?;
         Some(self.memory[self.used])
     }
 }

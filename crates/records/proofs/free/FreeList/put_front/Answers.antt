@@ -6,6 +6,7 @@ use Rattle.records.proofs.free.FreeList.put_front.Goals.{then-k-eq0-via-then-k-e
 
 pub returns-then-k-eq0 : goal.returns-then-k-eq0
 returns-then-k-eq0 c = (
+  refl,
   λ p h a. elim c.then-k-eq0.branch [
     | then-k-eq0-via-then-k-eq0 w ↦ omega arith
     | then-k-eq0-via-else-k-eq0+then-k-gt-GREATEST w ↦ omega arith
