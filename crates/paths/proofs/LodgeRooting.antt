@@ -44,10 +44,10 @@ root_refused h used p v k w free path pages m m' f n e q u =
 
 pub root_made : (h used p v k w : ℕ) (free path : List ℕ) (pages : ChildPages) (m m' : Image) → used + 1 ≤ length free → p ≡ get_or free used 0 → pages ≡ Two v k w
     → Wrote (write_of (h + 1) p (entry k v ∷ (entry 0 w ∷ [])) ∷ []) m m'
-    → Roots m h (pages_in pages) free used path (Ok (record { root = p; height = h + 1; used = used + 1; path = path })) m'
+    → Roots m h (pages_in pages) free used path (Ok (record { root = record { page = p; level = h + 1 }; used = used + 1; path = path })) m'
 root_made h used p v k w free path pages m m' n e q u =
     let s : h + 1 ≡ suc h = omega arith in
-    at_front h used p v k w free path pages m m' (Ok (record { root = p; height = h + 1; used = used + 1; path = path })) n e q
+    at_front h used p v k w free path pages m m' (Ok (record { root = record { page = p; level = h + 1 }; used = used + 1; path = path })) n e q
     (refl, s, refl, refl, subst (λ (x : ℕ). Wrote (write_of x p (entry k v ∷ (entry 0 w ∷ [])) ∷ []) m m') s u)
 
 new_root_part : (h : ℕ) (s : Split ℕ) (ws : List Write) (free : List ℕ) → (new_root_at h s ws free).part ≡ (new_root_at h s [] free).part
@@ -178,7 +178,7 @@ first_refused m m' p a q n (x ∷ xs) f e l z u =
     )
 
 pub first_made : (m m' : Image) (p a q n : ℕ) (free path : List ℕ) → n ≡ length free → 7 ≤ n → q ≡ get_or free 0 0
-    → Wrote (write_of 1 q (entry a 1 ∷ []) ∷ []) m m' → LodgedBy m 0 p a free (Ok (record { root = q; height = 1; used = 1; path = path })) m'
+    → Wrote (write_of 1 q (entry a 1 ∷ []) ∷ []) m m' → LodgedBy m 0 p a free (Ok (record { root = record { page = q; level = 1 }; used = 1; path = path })) m'
 unfolding path_at
 first_made m m' p a q n [] path e l z w = absurd (omega (arith, e, l))
 first_made m m' p a q n (x ∷ xs) path e l z w = (

@@ -1,12 +1,14 @@
 -- Each exit of the accesses to one page.
-use Rattle.std.proofs.Common.{◌≡◌, ℕ, ◌<◌, true, false, cond, List, [], ◌∷◌, length, get_or, Some, None, Ok, Err, Option, sym, refl, ap, ◌∙◌, subst, arith}
+use Rattle.std.proofs.Common.{◌≡◌, ℕ, ◌<◌, ◌≤◌, Bool, true, false, cond, List, [], ◌∷◌, length, get_or, Some, None, Ok, Err, Option, Result, sym, refl, ap, ◌∙◌, subst, arith}
 use Rattle.std.specs.List.{slice_get}
+use Rattle.std.specs.Option.{unwrap_or}
 use Rattle.std.proofs.lemmas.Option.{slice_get-get_or}
 use Rattle.pages.specs.declared.fault.StoreFault.{StoreFault}
 use Rattle.pages.specs.declared.fault.StoreFault.TheVariants.{Absent, Uncharged}
-use Rattle.pages.specs.Image.{Image, Reads, Writes}
+use Rattle.pages.specs.Image.{Image, Reads, Writes, written}
 use Rattle.layout.specs.declared.entry.Entry.{Entry}
 use Rattle.layout.specs.Content.{Own}
+use Rattle.layout.specs.Writing as layout
 use Rattle.layout.specs.Bytes.{content_of, entries_of}
 use Rattle.layout.proofs.Entries.{length_entries}
 use Rattle.layout.specs.declared.visit.Rule.TheVariants.{B, C}
@@ -14,7 +16,7 @@ use Rattle.faults.specs.declared.fault.Fault.{Fault}
 use Rattle.faults.specs.declared.fault.Fault.TheVariants.{Unsound}
 use Rattle.faults.specs.Accesses.{access, Fetches, Stores}
 use Rattle.paths.specs.PathsWrites.{Refuses, Unwrites}
-use Rattle.paths.specs.PathsPages.{Read, UnreadPage, write_of}
+use Rattle.paths.specs.PathsPages.{Read, UnreadPage, write_of, WritesPage}
 use Rattle.paths.specs.PathsPages.UnreadPage.{refused, broken}
 
 read_refused : (m m' : Image) (p : ℕ) (old new : List ℕ) (f : StoreFault) → Reads m p old (Err f) m' new → Refuses m p f × (m' ≡ m)
@@ -55,7 +57,7 @@ write_refused : (m m' : Image) (p : ℕ) (b : List ℕ) (f : StoreFault) → Wri
 write_refused m m' p b Absent w = (w.1, subst (λ (x : Image). Refuses x p Absent) (sym w.1) w.0)
 write_refused m m' p b Uncharged w = (w.2, subst (λ (x : Image). Refuses x p Uncharged) (sym w.2) (w.0, w.1))
 
-pub write_broken : (m m' : Image) (p l : ℕ) (b : List ℕ) (es : List Entry) (f : Fault) → Stores m p l b (Err f) m' → Unwrites (write_of l p es ∷ []) m f m'
+write_broken : (m m' : Image) (p l : ℕ) (b : List ℕ) (es : List Entry) (f : Fault) → Stores m p l b (Err f) m' → Unwrites (write_of l p es ∷ []) m f m'
 write_broken m m' p l b es f t =
     let x = write_refused m m' p b t.0 t.2 in
     record {
@@ -73,8 +75,13 @@ write_broken m m' p l b es f t =
       };
     }
 
-pub free_there : (xs : List ℕ) (i p : ℕ) (o : Option ℕ) → i < length xs → o ≡ slice_get xs i → o ≡ Some p → p ≡ get_or xs i 0
-free_there xs i p o h e s = let z : Some p ≡ Some (get_or xs i 0) = sym s ∙ e ∙ slice_get-get_or xs i 0 h in grind arith
+-- done or refused
+pub page_written : (m m' : Image) (p l : ℕ) (before b : List ℕ) (es : List Entry) (w : Bool) (r : Result (Unit {0}) Fault) → length es ≤ 10 → layout.Writes l p es before w b
+    → Stores m p l b r m' → WritesPage m l p es r m'
+page_written m m' p l before b es false r n t s = absurd (omega (arith, n, t.0))
+page_written m m' p l before b es true (Ok u) n t s =
+    record { accepts = (s.0, s.1, ap content_of (sym t.1.0) ∙ t.1.1, tt); image = s.2 ∙ ap (written m p) t.1.0 }
+page_written m m' p l before b es true (Err f) n t s = write_broken m m' p l b es f s
 
-pub free_not_there : (xs : List ℕ) (i p : ℕ) (o : Option ℕ) → i < length xs → o ≡ slice_get xs i → o ≡ None → p ≡ get_or xs i 0
-free_not_there xs i p o h e s = let z : None ≡ Some (get_or xs i 0) = sym s ∙ e ∙ slice_get-get_or xs i 0 h in absurd (grind arith)
+pub free_there : (xs : List ℕ) (i p : ℕ) (o : Option ℕ) → i < length xs → o ≡ slice_get xs i → p ≡ unwrap_or o 0 → p ≡ get_or xs i 0
+free_there xs i p o h e s = s ∙ ap (λ (x : Option ℕ). unwrap_or x 0) (e ∙ slice_get-get_or xs i 0 h)

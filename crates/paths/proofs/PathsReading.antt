@@ -50,8 +50,8 @@ pub record Goes (m m₂ : Image) (l k p a child : ℕ) (es : List Entry) : Type 
   pub few : length es ≤ 10
   pub picks : child ≡ pick es a
 
-pub goes : (m m₂ : Image) (l p a child : ℕ) (es : List Entry) → 2 ≤ l → Read m p l es m₂ → child ≡ pick es a → Goes m m₂ l (l - 1) p a child es
-goes m m₂ l p a child es two r c = record { inner = two; lower = refl; charged = r.charged; spends = r.spends; holds = r.holds; few = r.few; picks = c }
+pub goes : (m m₂ : Image) (l k p a child : ℕ) (es : List Entry) → 2 ≤ l → Read m p l es m₂ → child ≡ pick es a → k ≡ l - 1 → Goes m m₂ l k p a child es
+goes m m₂ l k p a child es two r c e = record { inner = two; lower = e; charged = r.charged; spends = r.spends; holds = r.holds; few = r.few; picks = c }
 
 pub goes_to : {m m₂ : Image} {l k p a child : ℕ} {es : List Entry} → Goes m m₂ l k p a child es → child ≡ pick (contents m p).entries a
 goes_to {a = a} w = w.picks ∙ ap (λ (x : List Entry). pick x a) w.holds

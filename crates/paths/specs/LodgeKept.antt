@@ -29,8 +29,8 @@ LodgeAllowed s a = Allowed (events_at s a) (lodge_step s a).next.height (lodge_n
 pub record LodgeDone (m : Image) (s : State) (a : ℕ) (g : Copied) (m' : Image) : Type 0 where
   pub allowed : LodgeAllowed s a
   pub carried : s.height + lodge_needs s a ≤ m.charge
-  pub root : g.root ≡ root_of (lodge_step s a).next.tree
-  pub height : g.height ≡ (lodge_step s a).next.height
+  pub root : g.root.page ≡ root_of (lodge_step s a).next.tree
+  pub height : g.root.level ≡ (lodge_step s a).next.height
   pub used : g.used ≡ length (lodge_step s a).writes
   pub path : back s.height g.path ≡ path_of s.tree a
   pub wrote : Wrote (lodge_step s a).writes (after_reads m s.height) m'

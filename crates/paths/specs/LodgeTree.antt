@@ -14,7 +14,7 @@ use Rattle.paths.specs.LodgeRules.{Allowed, Unlodged, count_under}
 -- a new root over two pages, or none over one
 abbrev pub Rooted : Made ℕ → ℕ → List ℕ → ℕ → Image → Result Copied Fault → Image → Type 0
 Rooted made height path used m (Ok g) m' =
-    (g.root ≡ made.part) × (g.height ≡ height) × (g.used ≡ used + length made.writes) × (g.path ≡ path) × Wrote made.writes m m'
+    (g.root.page ≡ made.part) × (g.root.level ≡ height) × (g.used ≡ used + length made.writes) × (g.path ≡ path) × Wrote made.writes m m'
 Rooted made height path used m (Err f) m' = Unwrites made.writes m f m'
 
 abbrev pub Roots : Image → ℕ → Split ℕ → List ℕ → ℕ → List ℕ → Result Copied Fault → Image → Type 0
@@ -22,8 +22,8 @@ Roots m h s free used path r m' = Rooted (new_root_at h s [] (drop used free)) (
 
 -- the code's copy of the path of a tree of height h is the theory's
 pub record CopiedTo (u : Update) (old : List ℕ) (h : ℕ) (g : Copied) : Type 0 where
-  pub root : g.root ≡ u.next.root
-  pub height : g.height ≡ u.next.height
+  pub root : g.root.page ≡ u.next.root
+  pub height : g.root.level ≡ u.next.height
   pub used : g.used ≡ length u.writes
   pub path : back h g.path ≡ old
 

@@ -20,7 +20,7 @@ use Rattle.paths.specs.Withdrawals.{Refusal}
 
 -- what is left of the root, as an answer: where nothing is left the tree is empty
 abbrev pub copied_of : Left → ℕ → List ℕ → Copied
-copied_of g h path = record { root = root_left (left_of g.page); height = height_at (left_of g.page) h; used = g.used; path = path }
+copied_of g h path = record { root = record { page = root_left (left_of g.page); level = height_at (left_of g.page) h }; used = g.used; path = path }
 
 -- a path that can be copied: at most six pages, and as many are free
 abbrev pub RoomFor : ℕ → List ℕ → Type 0
@@ -31,8 +31,8 @@ pub record CopiesLeft (m : Image) (h p a : ℕ) (free : List ℕ) (g : Copied) (
   pub room : RoomFor h free
   pub charged : h ≤ m.charge
   pub event : found a (leaf_at h (contents m) p a) ≡ None → ⊥
-  pub root : g.root ≡ (withdraw_by h (contents m) p a free).next.root
-  pub height : g.height ≡ (withdraw_by h (contents m) p a free).next.height
+  pub root : g.root.page ≡ (withdraw_by h (contents m) p a free).next.root
+  pub height : g.root.level ≡ (withdraw_by h (contents m) p a free).next.height
   pub used : g.used ≡ length (withdraw_by h (contents m) p a free).writes
   pub path : back h g.path ≡ path_at h (contents m) p a
   pub wrote : Wrote (withdraw_by h (contents m) p a free).writes (after_reads m h) m'
@@ -54,8 +54,8 @@ has_events s a = count_at (events_of s.tree) a
 pub record WithdrawDone (m : Image) (s : State) (a : ℕ) (g : Copied) (m' : Image) : Type 0 where
   pub event : 1 ≤ has_events s a
   pub carried : s.height + length (withdraw_step s a).writes ≤ m.charge
-  pub root : g.root ≡ root_of (withdraw_step s a).next.tree
-  pub height : g.height ≡ (withdraw_step s a).next.height
+  pub root : g.root.page ≡ root_of (withdraw_step s a).next.tree
+  pub height : g.root.level ≡ (withdraw_step s a).next.height
   pub used : g.used ≡ length (withdraw_step s a).writes
   pub path : back s.height g.path ≡ path_of s.tree a
   pub wrote : Wrote (withdraw_step s a).writes (after_reads m s.height) m'

@@ -20,6 +20,7 @@ use faults::fault::Fault;
 use layout::change::{ChildPages, RightHalf};
 use layout::entry::Entry;
 use layout::list::EntryList;
+use layout::page_ref::PageRef;
 use pages::store::PageStore;
 use records::free::FreeList;
 
@@ -74,31 +75,30 @@ fn lodge_leaf<S: PageStore>(
 // Lodge at a page of a path, and note the path's pages by their level, the leaf at 0.
 fn lodge_at<S: PageStore>(
     store: &mut S,
-    page: u16,
-    level: u8,
+    at: PageRef,
     address: u64,
     plan: Plan,
     free: &FreeList,
     path: &mut [u16; 6],
 ) -> Result<Placed, Fault>
-    requires one { 1 ≤ level }
-    requires low { level ≤ plan.base }
-    requires six { level ≤ 6 }
-    requires few { plan.base + plan.extra + level ≤ 1000 }
-    ensures lodges { Lodged (S.meaning store.old) level page address (numbers free.now) plan result (S.meaning store.new) }
-    ensures path { Traced (S.meaning store.old) level page address result path.new }
+    requires one { 1 ≤ at.level }
+    requires low { at.level ≤ plan.base }
+    requires six { at.level ≤ 6 }
+    requires few { plan.base + plan.extra + at.level ≤ 1000 }
+    ensures lodges { Lodged (S.meaning store.old) at.level at.page address (numbers free.now) plan result (S.meaning store.new) }
+    ensures path { Traced (S.meaning store.old) at.level at.page address result path.new }
 {
-    let mut list = read_page(store, page, level)?;
-    if level == 1 {
-        path[0] = page;
+    let mut list = read_page(store, at)?;
+    if at.level == 1 {
+        path[0] = at.page;
         return lodge_leaf(store, &mut list, address, plan, free);
     }
-    let child = child_in(&list, address);
+    let child = child_in(&list, at, address);
     let deep = plan.below(list.len());
-    let below = lodge_at(store, child, level - 1, address, deep, free, path)?;
-    path[level as usize - 1] = page;
+    let below = lodge_at(store, child, address, deep, free, path)?;
+    path[at.level as usize - 1] = at.page;
     let right = renew_child(&mut list, address, below.pages);
-    place(store, level, &list, right, free, below.used)
+    place(store, at.level, &list, right, free, below.used)
 }
 
 // A new root over the two pages of a root that was split.
@@ -115,13 +115,18 @@ fn new_root<S: PageStore>(
 {
     match placed.pages {
         ChildPages::One(page) => Ok(Copied {
-            root: page,
-            height,
+            root: PageRef {
+                page,
+                level: height,
+            },
             used: placed.used,
             path,
         }),
         ChildPages::Two(left, key, right) => {
-            let page = free_at(free, placed.used);
+            let root = PageRef {
+                page: free_at(free, placed.used),
+                level: height + 1,
+            };
             let items = [
                 Entry { key, value: left },
                 Entry {
@@ -129,10 +134,9 @@ fn new_root<S: PageStore>(
                     value: right,
                 },
             ];
-            write_items(store, page, height + 1, &items)?;
+            write_items(store, root, &items)?;
             Ok(Copied {
-                root: page,
-                height: height + 1,
+                root,
                 used: placed.used + 1,
                 path,
             })
@@ -143,28 +147,29 @@ fn new_root<S: PageStore>(
 // The first leaf of an empty tree.
 fn first_leaf<S: PageStore>(
     store: &mut S,
-    root: u16,
+    old: u16,
     address: u64,
     free: &FreeList,
 ) -> Result<Copied, Fault>
-    ensures { LodgedBy (S.meaning store.old) 0 root address (numbers free.now) result (S.meaning store.new) }
+    ensures { LodgedBy (S.meaning store.old) 0 old address (numbers free.now) result (S.meaning store.new) }
 {
     if free.len() < 7 {
         return Err(Fault::Room);
     }
-    let page = free_at(free, 0);
+    let root = PageRef {
+        page: free_at(free, 0),
+        level: 1,
+    };
     write_items(
         store,
-        page,
-        1,
+        root,
         &[Entry {
             key: address,
             value: 1,
         }],
     )?;
     Ok(Copied {
-        root: page,
-        height: 1,
+        root,
         used: 1,
         path: [0; 6],
     })
@@ -172,43 +177,41 @@ fn first_leaf<S: PageStore>(
 
 fn lodge_tree<S: PageStore>(
     store: &mut S,
-    root: u16,
-    height: u8,
+    root: PageRef,
     address: u64,
     free: &FreeList,
 ) -> Result<Copied, Fault>
-    requires { height ≤ 6 }
-    ensures { LodgedBy (S.meaning store.old) height root address (numbers free.now) result (S.meaning store.new) }
+    requires { root.level ≤ 6 }
+    ensures { LodgedBy (S.meaning store.old) root.level root.page address (numbers free.now) result (S.meaning store.new) }
 {
-    if height == 0 {
-        return first_leaf(store, root, address, free);
+    if root.level == 0 {
+        return first_leaf(store, root.page, address, free);
     }
     let mut path = [0; 6];
     let plan = Plan {
-        base: height as usize,
+        base: root.level as usize,
         extra: 1,
-        height: height + 1,
+        height: root.level + 1,
     };
-    let placed = lodge_at(store, root, height, address, plan, free, &mut path)?;
-    new_root(store, height, placed, free, path)
+    let placed = lodge_at(store, root, address, plan, free, &mut path)?;
+    new_root(store, root.level, placed, free, path)
 }
 
-// Lodges one event at an address in the tree at this root and height: writes its new pages to the front of the free pages, leaf
+// Lodges one event at an address in the tree under this root: writes its new pages to the front of the free pages, leaf
 // first, upward, and leaves the header and the free list as they are. Asked in this order: the path is read (9); the count is below
 // 65,535 (14); the height stays at most 6 (15); k pages are needed and k + 6 are free (16); the pages are written (17).
 pub fn lodge<S: PageStore>(
     store: &mut S,
-    root: u16,
-    height: u8,
+    root: PageRef,
     address: u64,
     free: &FreeList,
 ) -> Result<Copied, Fault>
-    ensures { LodgeIs (S.meaning store.old) root height address (numbers free.now) result (S.meaning store.new) }
+    ensures { LodgeIs (S.meaning store.old) root.page root.level address (numbers free.now) result (S.meaning store.new) }
 {
-    if height > 6 {
+    if root.level > 6 {
         return Err(Fault::HeightFull);
     }
-    lodge_tree(store, root, height, address, free)
+    lodge_tree(store, root, address, free)
 }
 
 // After a lodge the new tree is kept in the store, and its free list is the old path before the pages that are left; after a

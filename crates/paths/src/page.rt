@@ -17,30 +17,26 @@ use pages::store::PageStore;
 use records::free::FreeList;
 use layout::visit::Rule;
 
-// Whether a page has this number and this level.
-fn is_own(bytes: &[u8; 128], page: u16, level: u8) -> bool
-    ensures { Decides result (Own page level (content_of bytes.now)) }
+// Whether a page has its own number and level.
+fn is_own(bytes: &[u8; 128], at: PageRef) -> bool
+    ensures { Decides result (Own at.page at.level (content_of bytes.now)) }
 {
     let reader = PageReader::new(bytes);
-    reader.number() == page && reader.level() == level
+    reader.number() == at.page && reader.level() == at.level
 }
 
 // The entries of a page of this level. Refused where the page is not of this number and level (B) or has no entries (C).
-pub(crate) fn read_page<S: PageStore>(
-    store: &mut S,
-    page: u16,
-    level: u8,
-) -> Result<EntryList, Fault>
-    ensures { ReadsPage (S.meaning store.old) page level result (S.meaning store.new) }
+pub(crate) fn read_page<S: PageStore>(store: &mut S, at: PageRef) -> Result<EntryList, Fault>
+    ensures { ReadsPage (S.meaning store.old) at.page at.level result (S.meaning store.new) }
 {
     let mut bytes = [0; 128];
-    fetch(store, PageRef { page, level }, &mut bytes)?;
-    if !is_own(&bytes, page, level) {
-        return Err(Fault::Unsound(page, Rule::B));
+    fetch(store, at, &mut bytes)?;
+    if !is_own(&bytes, at) {
+        return Err(Fault::Unsound(at.page, Rule::B));
     }
     let list = EntryList::of_page(&bytes);
     if list.len() == 0 {
-        return Err(Fault::Unsound(page, Rule::C));
+        return Err(Fault::Unsound(at.page, Rule::C));
     }
     Ok(list)
 }
@@ -48,29 +44,26 @@ pub(crate) fn read_page<S: PageStore>(
 // Writes a page of these entries.
 pub(crate) fn write_items<S: PageStore>(
     store: &mut S,
-    page: u16,
-    level: u8,
+    at: PageRef,
     items: &[Entry],
 ) -> Result<(), Fault>
     requires { length items.now ≤ 10 }
-    ensures { WritesPage (S.meaning store.old) level page items.now result (S.meaning store.new) }
+    ensures { WritesPage (S.meaning store.old) at.level at.page items.now result (S.meaning store.new) }
 {
     let mut bytes = [0; 128];
-    let _ = write_page(&mut bytes, level, page, items);
-    put(store, PageRef { page, level }, &bytes)?;
-    Ok(())
+    let _ = write_page(&mut bytes, at.level, at.page, items);
+    put(store, at, &bytes)
 }
 
 pub(crate) fn write_entries<S: PageStore>(
     store: &mut S,
-    page: u16,
-    level: u8,
+    at: PageRef,
     list: &EntryList,
 ) -> Result<(), Fault>
     requires { length (entries list.now) ≤ 10 }
-    ensures { WritesPage (S.meaning store.old) level page (entries list.now) result (S.meaning store.new) }
+    ensures { WritesPage (S.meaning store.old) at.level at.page (entries list.now) result (S.meaning store.new) }
 {
-    write_items(store, page, level, list.as_slice())
+    write_items(store, at, list.as_slice())
 }
 
 // The free page at a place, from the front.
@@ -78,8 +71,5 @@ pub(crate) fn free_at(free: &FreeList, i: usize) -> u16
     requires { i < length (numbers free.now) }
     ensures { result ≡ slice_index (numbers free.now) i }
 {
-    match free.peek(i) {
-        Some(page) => page,
-        None => 0,
-    }
+    free.peek(i).unwrap_or(0)
 }

@@ -8,6 +8,7 @@ use crate::page::{free_at, write_entries};
 use faults::fault::Fault;
 use layout::change::{ChildPages, RightHalf};
 use layout::list::EntryList;
+use layout::page_ref::PageRef;
 use pages::store::PageStore;
 use records::free::FreeList;
 
@@ -32,7 +33,7 @@ pub(crate) fn place<S: PageStore>(
     ensures { Places (S.meaning store.old) level (halves_of (entries left.now) right) (numbers free.now) used result (S.meaning store.new) }
 {
     let first = free_at(free, used);
-    write_entries(store, first, level, left)?;
+    write_entries(store, PageRef { page: first, level }, left)?;
     match right {
         None => Ok(Placed {
             pages: ChildPages::One(first),
@@ -40,7 +41,14 @@ pub(crate) fn place<S: PageStore>(
         }),
         Some(half) => {
             let second = free_at(free, used + 1);
-            write_entries(store, second, level, &half.entries)?;
+            write_entries(
+                store,
+                PageRef {
+                    page: second,
+                    level,
+                },
+                &half.entries,
+            )?;
             Ok(Placed {
                 pages: ChildPages::Two(first, half.key, second),
                 used: used + 2,

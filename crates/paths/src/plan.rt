@@ -20,15 +20,14 @@ impl Plan {
     {
         if len <= 9 {
             return Plan {
-                base: self.base,
                 extra: 0,
                 height: 0,
+                ..self
             };
         }
         Plan {
-            base: self.base,
             extra: self.extra + 1,
-            height: self.height,
+            ..self
         }
     }
 

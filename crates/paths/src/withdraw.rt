@@ -12,6 +12,7 @@ use crate::tally::child_in;
 use crate::withdraw_edits::{restore_child, take_one};
 use faults::fault::Fault;
 use layout::list::EntryList;
+use layout::page_ref::PageRef;
 use pages::store::PageStore;
 use records::free::FreeList;
 
@@ -32,7 +33,7 @@ fn place_left<S: PageStore>(
         return Ok(Left { page: None, used });
     }
     let page = free_at(free, used);
-    write_entries(store, page, level, list)?;
+    write_entries(store, PageRef { page, level }, list)?;
     Ok(Left {
         page: Some(page),
         used: used + 1,
@@ -42,50 +43,49 @@ fn place_left<S: PageStore>(
 // Withdraw at a page of a level. The table gets the path, each page at its level less 1.
 fn withdraw_at<S: PageStore>(
     store: &mut S,
-    page: u16,
-    level: u8,
+    at: PageRef,
     address: u64,
     free: &FreeList,
     path: &mut [u16; 6],
 ) -> Result<Left, Fault>
-    requires one { 1 ≤ level }
-    requires six { level ≤ 6 }
-    requires room { level ≤ length (numbers free.now) }
-    ensures withdraws { Withdrawn (S.meaning store.old) level page address (numbers free.now) result (S.meaning store.new) }
-    ensures path { Traced (S.meaning store.old) level page address result path.new }
+    requires one { 1 ≤ at.level }
+    requires six { at.level ≤ 6 }
+    requires room { at.level ≤ length (numbers free.now) }
+    ensures withdraws { Withdrawn (S.meaning store.old) at.level at.page address (numbers free.now) result (S.meaning store.new) }
+    ensures path { Traced (S.meaning store.old) at.level at.page address result path.new }
 {
-    let mut list = read_page(store, page, level)?;
-    if level == 1 {
+    let mut list = read_page(store, at)?;
+    if at.level == 1 {
         if !take_one(&mut list, address) {
             return Err(Fault::NoEvent);
         }
-        path[0] = page;
+        path[0] = at.page;
         return place_left(store, 1, &list, free, 0);
     }
-    let child = child_in(&list, address);
-    let below = withdraw_at(store, child, level - 1, address, free, path)?;
-    path[level as usize - 1] = page;
+    let child = child_in(&list, at, address);
+    let below = withdraw_at(store, child, address, free, path)?;
+    path[at.level as usize - 1] = at.page;
     restore_child(&mut list, address, below.page);
-    place_left(store, level, &list, free, below.used)
+    place_left(store, at.level, &list, free, below.used)
 }
+
+// The root of the empty tree.
+const EMPTY: PageRef = PageRef { page: 0, level: 0 };
 
 // What is left of the root, as an answer.
 fn copied(left: Left, height: u8, path: [u16; 6]) -> Copied
     ensures { result ≡ copied_of left height path }
 {
-    match left.page {
-        Some(root) => Copied {
-            root,
-            height,
-            used: left.used,
-            path,
-        },
-        None => Copied {
-            root: 0,
-            height: 0,
-            used: left.used,
-            path,
-        },
+    Copied {
+        root: left.page.map_or(
+            EMPTY,
+            |page| PageRef {
+                page,
+                level: height,
+            },
+        ),
+        used: left.used,
+        path,
     }
 }
 
@@ -99,38 +99,36 @@ fn has_room(height: u8, free: &FreeList) -> bool
 
 fn withdraw_path<S: PageStore>(
     store: &mut S,
-    root: u16,
-    height: u8,
+    root: PageRef,
     address: u64,
     free: &FreeList,
 ) -> Result<Copied, Fault>
-    ensures { Withdrew (S.meaning store.old) height root address (numbers free.now) result (S.meaning store.new) }
+    ensures { Withdrew (S.meaning store.old) root.level root.page address (numbers free.now) result (S.meaning store.new) }
 {
-    if height == 0 {
+    if root.level == 0 {
         return Err(Fault::NoEvent);
     }
-    if !has_room(height, free) {
+    if !has_room(root.level, free) {
         return Err(Fault::Room);
     }
     let mut path = [0; 6];
-    let left = withdraw_at(store, root, height, address, free, &mut path)?;
-    Ok(copied(left, height, path))
+    let left = withdraw_at(store, root, address, free, &mut path)?;
+    Ok(copied(left, root.level, path))
 }
 
-// Takes one event back at an address from the tree at this root and height. Asked in this order, before any write: does the charge
+// Takes one event back at an address from the tree under this root. Asked in this order, before any write: does the charge
 // carry the reads of the path (9), has the address an event (13)? Then what remains of the path is written to the front pages of
 // the free list, which is not changed here, the leaf first; the charge may not carry a write (17). In memory where no tree is kept
 // also: fewer free pages than levels, or more than six levels (16), a page that does not exist (8) or breaks a rule (12).
 pub fn withdraw<S: PageStore>(
     store: &mut S,
-    root: u16,
-    height: u8,
+    root: PageRef,
     address: u64,
     free: &FreeList,
 ) -> Result<Copied, Fault>
-    ensures { WithdrawIs (S.meaning store.old) root height address (numbers free.now) result (S.meaning store.new) }
+    ensures { WithdrawIs (S.meaning store.old) root.page root.level address (numbers free.now) result (S.meaning store.new) }
 {
-    withdraw_path(store, root, height, address, free)
+    withdraw_path(store, root, address, free)
 }
 
 // After a withdrawal the new tree is kept in the store, and its free list is the old path before the pages that are left; after a

@@ -5,12 +5,12 @@ use Rattle.paths.proofs.LodgeRooting.{first_few, first_refused, first_made}
 use Rattle.paths.proofs.lodge.first_leaf.Goals as goal
 
 pub returns-then-len-lt7 : goal.returns-then-len-lt7
-returns-then-len-lt7 g c = first_few _ c.args.root c.args.address c.len.result (numbers c.args.free.now) c.len.ensures (omega arith)
+returns-then-len-lt7 g c = first_few _ c.args.old c.args.address c.len.result (numbers c.args.free.now) c.len.ensures (omega arith)
 
 pub returns-in_err-write_items : goal.returns-in_err-write_items
 returns-in_err-write_items g c =
     let p = err_from_is_err_and c.from_residual.result c.from_residual.ensures.1 in
-    rw (p.1, p.2) (first_refused _ _ c.args.root _ _ c.len.result _ _ c.len.ensures (omega arith) c.free_at-page.ensures c.in_err-write_items.ensures)
+    rw (p.1, p.2) (first_refused _ _ c.args.old _ _ c.len.result _ _ c.len.ensures (omega arith) c.free_at.ensures c.in_err-write_items.ensures)
 
 pub returns : goal.returns
-returns g c = first_made _ _ c.args.root _ _ c.len.result _ _ c.len.ensures (omega arith) c.free_at-page.ensures c.in_ok-write_items.ensures
+returns g c = first_made _ _ c.args.old _ _ c.len.result _ _ c.len.ensures (omega arith) c.free_at.ensures c.in_ok-write_items.ensures

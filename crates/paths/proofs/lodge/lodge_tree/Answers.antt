@@ -4,8 +4,8 @@ use Rattle.paths.proofs.LodgeClimbing.{lodge_room}
 use Rattle.paths.proofs.LodgeRooting.{tree_empty, tree_fails, tree_roots}
 use Rattle.paths.proofs.lodge.lodge_tree.Goals as goal
 
-pub returns-then-height-eq0 : goal.returns-then-height-eq0
-returns-then-height-eq0 g c = tree_empty _ _ _ _ _ _ c.first_leaf.result c.if-height-eq0.true c.first_leaf.ensures
+pub returns-then-root-eq0 : goal.returns-then-root-eq0
+returns-then-root-eq0 g c = tree_empty _ _ _ _ _ _ c.first_leaf.result c.if-root-eq0.true c.first_leaf.ensures
 
 pub returns-in_err-placed : goal.returns-in_err-placed
 returns-in_err-placed g c =
@@ -15,7 +15,7 @@ returns-in_err-placed g c =
 pub new_root-requires : goal.new_root-requires
 new_root-requires g c =
     let mean = g.S.PageStore.meaning in
-    let n = lodge_room (mean c.args.store.now) _ c.args.height _ _ _ _ c.in_ok-placed.placed (omega arith) c.in_ok-placed.ensures.lodges in
+    let n = lodge_room (mean c.args.store.now) _ c.args.root.level _ _ _ _ c.in_ok-placed.placed (omega arith) c.in_ok-placed.ensures.lodges in
     record { enough = omega (arith, n); low = c.requires }
 
 pub returns : goal.returns

@@ -4,8 +4,8 @@ use Rattle.paths.specs.WithdrawRules.NotWithdrawn.{no_room, refusal}
 use Rattle.paths.proofs.WithdrawKept.{empty_refused, root_copied}
 use Rattle.paths.proofs.withdraw.withdraw_path.Goals as goal
 
-pub returns-then-height-eq0 : goal.returns-then-height-eq0
-returns-then-height-eq0 g c = empty_refused _ _ _ _ _ c.if-height-eq0.true
+pub returns-then-root-eq0 : goal.returns-then-root-eq0
+returns-then-root-eq0 g c = empty_refused _ _ _ _ _ c.if-root-eq0.true
 
 pub returns-then-not-has_room : goal.returns-then-not-has_room
 returns-then-not-has_room g c = no_room refl (c.if-not-has_room.ensures.no refl) refl
