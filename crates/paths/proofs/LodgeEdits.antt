@@ -1,10 +1,11 @@
 -- The edits of a page's entries are the tree's.
-use Rattle.std.proofs.Common.{◌≡◌, ℕ, ◌≤◌, Bool, true, false, cond, leb, List, [], ◌∷◌, length, Some, None, Option, sym, refl, ap, ◌∙◌, arith}
+use Rattle.std.proofs.Common.{◌≡◌, ℕ, ◌≤◌, Bool, true, false, cond, leb, List, [], ◌∷◌, length, Some, None, Option, Ok, Err, Result, sym, refl, ap, ◌∙◌, arith}
 use Rattle.layout.specs.declared.entry.Entry.{Entry}
 use Rattle.layout.specs.declared.change.ChildPages.{ChildPages}
 use Rattle.layout.specs.declared.change.ChildPages.TheVariants.{One, Two}
 use Rattle.layout.specs.declared.change.RightHalf.{RightHalf}
 use Rattle.layout.specs.Edits as page
+use Rattle.layout.specs.declared.change.Full.{Full}
 use Rattle.layout.specs.Changes.{Puts, split_of, after_split, Few}
 use Rattle.tree.specs.CopyMoves.{Split}
 use Rattle.tree.specs.CopyMoves.Split.{one, two}
@@ -41,11 +42,11 @@ put_same (e ∷ (d ∷ es)) a s =
     ap (λ (z : List Entry). cond (leb a e.key) z (e ∷ page.put_child (d ∷ es) a (split_of s))) (filled e.key (d ∷ es) s)
     ∙ ap (λ (z : List Entry). cond (leb a e.key) (fill e.key (d ∷ es) (pages_in s)) (e ∷ z)) (put_same (d ∷ es) a s)
 
-puts : (es mid : List Entry) (a : ℕ) (s : ChildPages) (b : Bool) → length es ≤ 10 → Puts a s es b mid → mid ≡ swap es a (pages_in s)
-puts es mid a s true n t = t ∙ put_same es a s
-puts es mid a s false n t = absurd (omega (arith, n, t.0))
+puts : (es mid : List Entry) (a : ℕ) (s : ChildPages) (b : Result (Unit {0}) Full) → length es ≤ 10 → Puts a s es b mid → mid ≡ swap es a (pages_in s)
+puts es mid a s (Ok u) n t = t ∙ put_same es a s
+puts es mid a s (Err f) n t = absurd (omega (arith, n, t.0))
 
-pub renewed : (es mid out : List Entry) (a : ℕ) (s : ChildPages) (b : Bool) (r : Option RightHalf) → length es ≤ 10 → Puts a s es b mid → after_split out r ≡ page.fit_inner mid
+pub renewed : (es mid out : List Entry) (a : ℕ) (s : ChildPages) (b : Result (Unit {0}) Full) (r : Option RightHalf) → length es ≤ 10 → Puts a s es b mid → after_split out r ≡ page.fit_inner mid
     → halves_of out r ≡ fit_inner (swap es a (pages_in s))
 renewed es mid out a s b r n t e = sym (tree_halves out r) ∙ ap as_tree e ∙ tree_inner mid ∙ ap fit_inner (puts es mid a s b n t)
 

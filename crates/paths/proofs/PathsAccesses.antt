@@ -7,6 +7,7 @@ use Rattle.pages.specs.declared.fault.StoreFault.{StoreFault}
 use Rattle.pages.specs.declared.fault.StoreFault.TheVariants.{Absent, Uncharged}
 use Rattle.pages.specs.Image.{Image, Reads, Writes, written}
 use Rattle.layout.specs.declared.entry.Entry.{Entry}
+use Rattle.layout.specs.declared.writer.TooMany.{TooMany}
 use Rattle.layout.specs.Content.{Own}
 use Rattle.layout.specs.Writing as layout
 use Rattle.layout.specs.Bytes.{content_of, entries_of}
@@ -76,12 +77,12 @@ write_broken m m' p l b es f t =
     }
 
 -- done or refused
-pub page_written : (m m' : Image) (p l : ℕ) (before b : List ℕ) (es : List Entry) (w : Bool) (r : Result (Unit {0}) Fault) → length es ≤ 10 → layout.Writes l p es before w b
+pub page_written : (m m' : Image) (p l : ℕ) (before b : List ℕ) (es : List Entry) (w : Result (Unit {0}) TooMany) (r : Result (Unit {0}) Fault) → length es ≤ 10 → layout.Writes l p es before w b
     → Stores m p l b r m' → WritesPage m l p es r m'
-page_written m m' p l before b es false r n t s = absurd (omega (arith, n, t.0))
-page_written m m' p l before b es true (Ok u) n t s =
+page_written m m' p l before b es (Err e) r n t s = absurd (omega (arith, n, t.0))
+page_written m m' p l before b es (Ok v) (Ok u) n t s =
     record { accepts = (s.0, s.1, ap content_of (sym t.1.0) ∙ t.1.1, tt); image = s.2 ∙ ap (written m p) t.1.0 }
-page_written m m' p l before b es true (Err f) n t s = write_broken m m' p l b es f s
+page_written m m' p l before b es (Ok v) (Err f) n t s = write_broken m m' p l b es f s
 
 pub free_there : (xs : List ℕ) (i p : ℕ) (o : Option ℕ) → i < length xs → o ≡ slice_get xs i → p ≡ unwrap_or o 0 → p ≡ get_or xs i 0
 free_there xs i p o h e s = s ∙ ap (λ (x : Option ℕ). unwrap_or x 0) (e ∙ slice_get-get_or xs i 0 h)

@@ -1,8 +1,9 @@
 -- The edits of one page are the tree's.
-use Rattle.std.proofs.Common.{◌≡◌, ℕ, suc, ◌-◌, ◌≤◌, Bool, true, false, cond, eqb, leb, List, [], ◌∷◌, length, Some, None, Option, sym, refl, ap, ◌∙◌, arith}
+use Rattle.std.proofs.Common.{◌≡◌, ℕ, suc, ◌-◌, ◌≤◌, Bool, true, false, cond, eqb, leb, List, [], ◌∷◌, length, Some, None, Option, Ok, Err, Result, sym, refl, ap, ◌∙◌, arith}
 use Rattle.layout.specs.declared.entry.Entry.{Entry}
 use Rattle.layout.specs.declared.change.ChildPages.TheVariants.{One}
 use Rattle.layout.specs.Edits as page
+use Rattle.layout.specs.declared.change.Full.{Full}
 use Rattle.layout.specs.Changes.{Removes, Puts}
 use Rattle.tree.specs.Tree.{Held}
 use Rattle.tree.specs.Tree.Held.{none, held}
@@ -68,12 +69,12 @@ put_same (e ∷ []) a v = refl
 put_same (e ∷ (d ∷ es)) a v =
     ap (λ (z : List Entry). cond (leb a e.key) (entry e.key v ∷ (d ∷ es)) z) (ap (λ (z : List Entry). e ∷ z) (put_same (d ∷ es) a v) ∙ sym (before_some e d es a v))
 
-pub restores_some : (a v : ℕ) (es after : List Entry) (r : Bool) (left : Option ℕ) → length es ≤ 10 → left ≡ Some v → Puts a (One v) es r after
+pub restores_some : (a v : ℕ) (es after : List Entry) (r : Result (Unit {0}) Full) (left : Option ℕ) → length es ≤ 10 → left ≡ Some v → Puts a (One v) es r after
     → (length after ≤ 10) × (after ≡ clear es a (left_of left))
-restores_some a v es after true left n q t =
+restores_some a v es after (Ok u) left n q t =
     let e = t ∙ put_same es a v ∙ ap (λ (x : Option ℕ). clear es a (left_of x)) (sym q) in
     (omega (arith, ap length e, clear_length es a (left_of left)), e)
-restores_some a v es after false left n q t = absurd (omega (arith, t.0))
+restores_some a v es after (Err f) left n q t = absurd (omega (arith, t.0))
 
 pub restores_none : (a : ℕ) (es after : List Entry) (left : Option ℕ) → length es ≤ 10 → left ≡ None → after ≡ page.drop_child_lem es a
     → (length after ≤ 10) × (after ≡ clear es a (left_of left))

@@ -12,10 +12,10 @@ use layout::entry::Entry;
 use layout::list::EntryList;
 use layout::page_ref::PageRef;
 use layout::reader::PageReader;
+use layout::visit::Rule;
 use layout::writer::write_page;
 use pages::store::PageStore;
 use records::free::FreeList;
-use layout::visit::Rule;
 
 // Whether a page has its own number and level.
 fn is_own(bytes: &[u8; 128], at: PageRef) -> bool
