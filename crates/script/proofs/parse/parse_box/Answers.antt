@@ -18,20 +18,22 @@ returns-in_err-high c =
     let p = err_from_is_err_and c.from_residual-in_err-high.result c.from_residual-in_err-high.ensures.1 in
     rw (p.1, p.2) (no_high c.args.words.now c.args.n c.in_err-high.field-0.0 c.in_err-high.ensures)
 
-pub returns-in-Ok : goal.returns-in-Ok
-returns-in-Ok c =
-    let ws = c.args.words.now in
-    let n = c.args.n in
-    let b = c.in-Ok.b in
-    let e = c.in-Ok.ensures in
-    let w = ends ws n c.in_ok-low.low c.in_ok-high.high c.if-words-ne0.false c.in_ok-low.ensures c.in_ok-high.ensures in
-    subst (λ (x : Point). Ends n (texts ws) x b.high) (sym e.0) (subst (λ (y : Point). Ends n (texts ws) c.in_ok-low.low y) (sym e.1) w)
 
-pub returns-in-Err : goal.returns-in-Err
-returns-in-Err c =
+pub returns-in_err-new : goal.returns-in_err-new
+returns-in_err-new c =
     let ws = c.args.words.now in
     let n = c.args.n in
-    let e = c.in-Err.ensures in
+    let e = c.in_err-new.ensures in
     let low = c.in_ok-low.low in
     let high = c.in_ok-high.high in
-    (e.0, (low, high, ends ws n low high c.if-words-ne0.false c.in_ok-low.ensures c.in_ok-high.ensures, e.1))
+    let p = err_from_is_err_and c.from_residual-in_err-new.result c.from_residual-in_err-new.ensures.1 in
+    rw (p.1, p.2) (e.0, (low, high, ends ws n low high c.if-words-ne0.false c.in_ok-low.ensures c.in_ok-high.ensures, e.1))
+
+pub returns : goal.returns
+returns c =
+    let ws = c.args.words.now in
+    let n = c.args.n in
+    let b = c.in_ok-new.field-0 in
+    let e = c.in_ok-new.ensures in
+    let w = ends ws n c.in_ok-low.low c.in_ok-high.high c.if-words-ne0.false c.in_ok-low.ensures c.in_ok-high.ensures in
+    subst (λ (x : Point). Ends n (texts ws) x b.high) (sym e.0) (subst (λ (y : Point). Ends n (texts ws) c.in_ok-low.low y) (sym e.1) w)
