@@ -1,6 +1,5 @@
 -- The questions that words write.
 use Rattle.std.proofs.Common.{◌≡◌, ℕ, ◌+◌, ◌-◌, ◌^◌, ◌<◌, ◌≤◌, List, [], length, get_or, take, Some, None, Err, codes, sym, ap, ◌∙◌, subst, arith, Bor}
-use native.Mathlib.Nat.{sub-zero}
 use Rattle.std.proofs.lemmas.List.{length-map, take-map}
 use Rattle.orders.specs.declared.space.QueryBox.{QueryBox}
 use Rattle.script.specs.Numbers.{NumberIs}
@@ -19,12 +18,12 @@ module _ (ws : List (Bor (List ℕ))) where
   len : length (texts ws) ≡ length ws
   len = length-map ws (λ (w : Bor (List ℕ)). w.now)
 
-  box_words : texts (take (length ws - 2 - 0) ws) ≡ take (length ws - 2) (texts ws)
-  box_words = ap (λ (k : ℕ). texts (take k ws)) (sub-zero (length ws - 2)) ∙ sym (take-map (λ (w : Bor (List ℕ)). w.now) (length ws - 2) ws)
+  box_words : texts (take (length ws - 2) ws) ≡ take (length ws - 2) (texts ws)
+  box_words = sym (take-map (λ (w : Bor (List ℕ)). w.now) (length ws - 2) ws)
 
   -- a box, `from` and an address, the last two by their places
   pub first_written : (n : ℕ) (b : QueryBox) (a : ℕ) → 2 ≤ length ws → (get_or ws (length ws - 2) past).now ≡ codes "from"
-      → NumberIs (get_or ws (length ws - 1) past).now M (Some a) → Ends n (texts (take (length ws - 2 - 0) ws)) b.low b.high → FirstWritten n (texts ws) b a
+      → NumberIs (get_or ws (length ws - 1) past).now M (Some a) → Ends n (texts (take (length ws - 2) ws)) b.low b.high → FirstWritten n (texts ws) b a
   first_written n b a two from number ends =
       let k : ℕ = length ws - 2 in
       let more : length ws - 1 ≡ k + 1 = omega arith in (
@@ -50,7 +49,7 @@ module _ (ws : List (Bor (List ℕ))) where
       let at : NumberIs (get_or (texts ws) (length ws - 1) []) M (Some a) = subst (λ (i : ℕ). NumberIs (get_or (texts ws) i []) M (Some a)) k w.3 in
       never (subst (λ (t : List ℕ). NumberIs t M (Some a)) (text_at ws (length ws - 1) (omega arith)) at).0
 
-  pub first_no_box : (n : ℕ) (e : Trouble) → 2 ≤ length ws → NoBox n (texts (take (length ws - 2 - 0) ws)) e → FirstIs n (texts ws) (Err e)
+  pub first_no_box : (n : ℕ) (e : Trouble) → 2 ≤ length ws → NoBox n (texts (take (length ws - 2) ws)) e → FirstIs n (texts ws) (Err e)
   first_no_box n (Unclear r) two h =
       λ b a w.
       let k : w.0 ≡ length ws - 2 = omega (arith, len, w.1) in

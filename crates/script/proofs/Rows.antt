@@ -1,7 +1,6 @@
 -- Rows of words and the numbers that they write.
 use Rattle.std.proofs.Common.{◌≡◌, ℕ, ◌+◌, ◌-◌, ◌/◌, ◌%◌, ◌^◌, ◌<◌, List, [], ◌∷◌, ◌++◌, length, get_or, take, drop, Some, None, sym, ap, ◌∙◌, subst, inl, inr, arith, ext_get_or, Bor}
-use native.Mathlib.Nat.{sub-zero}
-use Rattle.std.proofs.lemmas.List.{get_or-map, length-map, length-drop, take-map, drop-map, take_all, get_or_append_left, get_or_push}
+use Rattle.std.proofs.lemmas.List.{get_or-map, length-map, take-map, drop-map, get_or_append_left, get_or_push}
 use Rattle.std.proofs.lemmas.Bool.{cases_lt}
 use Rattle.orders.specs.declared.point.Point.{Point}
 use Rattle.script.specs.Numbers.{NumberIs, PointIs}
@@ -49,14 +48,11 @@ wrong_number n ts not-n not-four x w =
 
 -- The two halves of the words of a box.
 module _ (ws : List (Bor (List ℕ))) where
-  low_half : texts (take (length ws / 2 - 0) ws) ≡ take (length ws / 2) (texts ws)
-  low_half = ap (λ (k : ℕ). texts (take k ws)) (sub-zero (length ws / 2)) ∙ sym (take-map (λ (w : Bor (List ℕ)). w.now) (length ws / 2) ws)
+  low_half : texts (take (length ws / 2) ws) ≡ take (length ws / 2) (texts ws)
+  low_half = sym (take-map (λ (w : Bor (List ℕ)). w.now) (length ws / 2) ws)
 
-  high_half : texts (take (length ws - length ws / 2) (drop (length ws / 2) ws)) ≡ drop (length ws / 2) (texts ws)
-  high_half =
-      let all : take (length ws - length ws / 2) (drop (length ws / 2) ws) ≡ drop (length ws / 2) ws =
-      take_all (length ws - length ws / 2) (drop (length ws / 2) ws) (omega (arith, length-drop (length ws / 2) ws)) in
-      ap texts all ∙ sym (drop-map (λ (w : Bor (List ℕ)). w.now) (length ws / 2) ws)
+  high_half : texts (drop (length ws / 2) ws) ≡ drop (length ws / 2) (texts ws)
+  high_half = sym (drop-map (λ (w : Bor (List ℕ)). w.now) (length ws / 2) ws)
 
   middle : (k : ℕ) → length (texts ws) ≡ k + k → k ≡ length ws / 2
   middle k e = omega (arith, length-map ws (λ (w : Bor (List ℕ)). w.now))
@@ -64,8 +60,8 @@ module _ (ws : List (Bor (List ℕ))) where
   pub odd : (n : ℕ) → (length ws % 2 ≡ 0 → ⊥) → (low high : Point) → Ends n (texts ws) low high → ⊥
   odd n never low high ends = never (omega (arith, length-map ws (λ (w : Bor (List ℕ)). w.now), ends.1))
 
-  pub ends : (n : ℕ) (low high : Point) → length ws % 2 ≡ 0 → Written n (texts (take (length ws / 2 - 0) ws)) low
-      → Written n (texts (take (length ws - length ws / 2) (drop (length ws / 2) ws))) high → Ends n (texts ws) low high
+  pub ends : (n : ℕ) (low high : Point) → length ws % 2 ≡ 0 → Written n (texts (take (length ws / 2) ws)) low
+      → Written n (texts (drop (length ws / 2) ws)) high → Ends n (texts ws) low high
   ends n low high even a b = (
     length ws / 2,
     omega (arith, length-map ws (λ (w : Bor (List ℕ)). w.now)),
@@ -73,13 +69,13 @@ module _ (ws : List (Bor (List ℕ))) where
     subst (λ (ts : List (List ℕ)). Written n ts high) high_half b,
   )
 
-  pub no_low : (n : ℕ) (e : Trouble) → NoPoint n (texts (take (length ws / 2 - 0) ws)) e → NoBox n (texts ws) e
+  pub no_low : (n : ℕ) (e : Trouble) → NoPoint n (texts (take (length ws / 2) ws)) e → NoBox n (texts ws) e
   no_low n (Unclear r) h =
       λ low high w. h low (subst (λ (ts : List (List ℕ)). Written n ts low) (ap (λ (k : ℕ). take k (texts ws)) (middle w.0 w.1) ∙ sym low_half) w.2)
   no_low n (Refused f) h = absurd h
   no_low n Memory h = tt
 
-  pub no_high : (n : ℕ) (e : Trouble) → NoPoint n (texts (take (length ws - length ws / 2) (drop (length ws / 2) ws))) e → NoBox n (texts ws) e
+  pub no_high : (n : ℕ) (e : Trouble) → NoPoint n (texts (drop (length ws / 2) ws)) e → NoBox n (texts ws) e
   no_high n (Unclear r) h =
       λ low high w. h high (subst (λ (ts : List (List ℕ)). Written n ts high) (ap (λ (k : ℕ). drop k (texts ws)) (middle w.0 w.1) ∙ sym high_half) w.3)
   no_high n (Refused f) h = absurd h

@@ -15,8 +15,6 @@ pub fn number(word: &str, limit: u64) -> Option<u64>
     if !is_digits(word) {
         return None;
     }
-    match word.parse::<u64>() {
-        Ok(v) if v <= limit => Some(v),
-        _ => None,
-    }
+    let v = word.parse::<u64>().ok()?;
+    (v <= limit).then_some(v)
 }

@@ -55,28 +55,23 @@ pub fn parse_point(heap: Global, words: &[&str], n: u8) -> Result<Point, Trouble
 pub fn parse_box(heap: Global, words: &[&str], n: u8) -> Result<QueryBox, Trouble>
     ensures { MatchResult result (λ b. Ends n (texts words.now) b.low b.high) (NoBox n (texts words.now)) }
 {
-    let half = words.len() / 2;
     if words.len() % 2 != 0 {
         return Err(Trouble::Unclear(Reason::Words));
     }
-    let low = parse_point(heap, &words[0..half], n)?;
-    let high = parse_point(heap, &words[half..words.len()], n)?;
+    let (low, high) = words.split_at(words.len() / 2);
+    let low = parse_point(heap, low, n)?;
+    let high = parse_point(heap, high, n)?;
     Ok(QueryBox::new(low, high)?)
 }
 
 fn parse_first(heap: Global, words: &[&str], n: u8) -> Result<Question, Trouble>
     ensures { FirstIs n (texts words.now) result }
 {
-    let len = words.len();
-    if len < 2 {
+    let [ends @ .., "from", start] = words else {
         return Err(Trouble::Unclear(Reason::Words));
-    }
-    let is_from = words[len - 2] == "from";
-    if !is_from {
-        return Err(Trouble::Unclear(Reason::Words));
-    }
-    let start = parse_number(words[len - 1], u64::MAX)?;
-    let b = parse_box(heap, &words[0..len - 2], n)?;
+    };
+    let start = parse_number(start, u64::MAX)?;
+    let b = parse_box(heap, ends, n)?;
     Ok(Question::FirstOf(b, start))
 }
 

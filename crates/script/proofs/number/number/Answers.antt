@@ -1,12 +1,13 @@
 use Rattle.std.proofs.Common.{arith}
-use Rattle.script.proofs.Readings.{read_some, read_past, read_none}
+use Rattle.script.proofs.Readings.{read_within, read_none}
 use Rattle.script.proofs.number.number.Goals as goal
 
-pub returns-in-Ok : goal.returns-in-Ok
-returns-in-Ok c = read_some c.args.word.now c.args.limit c.in-Ok.v (c.is_digits.ensures.0 c.if-not-is_digits.false) c.in-Ok.ensures.value.0 c.if-v-limit.true
+pub returns-in_err-v : goal.returns-in_err-v
+returns-in_err-v c =
+    rw c.from_residual.ensures
+    (read_none c.args.word.now c.args.limit c.parse.result (omega arith) (c.is_digits.ensures.0 c.if-not-is_digits.false) c.parse.ensures.value.0 c.in_err-v.ensures.value)
 
-pub returns-in_default : goal.returns-in_default
-returns-in_default c = read_past c.args.word.now c.args.limit c.in-Ok.v (c.is_digits.ensures.0 c.if-not-is_digits.false) c.in-Ok.ensures.value.0 c.if-v-limit.false
-
-pub returns-in_default-2 : goal.returns-in_default-2
-returns-in_default-2 c = read_none c.args.word.now c.args.limit 0 (omega arith) (c.is_digits.ensures.0 c.if-not-is_digits.false) c.in_default.ensures.value.0
+pub returns : goal.returns
+returns c =
+    rw c.then_some.ensures
+    (read_within c.args.word.now c.args.limit c.parse.result c.in_ok-v.v (c.is_digits.ensures.0 c.if-not-is_digits.false) c.parse.ensures.value.0 c.in_ok-v.ensures.value)
