@@ -1,5 +1,5 @@
 // Lines that ask the order alone.
-ghost use Rattle.std.specs.Prelude.{◌≡◌, Some, None, MatchResult};
+ghost use Rattle.std.specs.Prelude.{◌≡◌, ℕ, ◌-◌, ◌^◌, Some, None, MatchResult};
 ghost use Rattle.script.specs.Grammar.{QuestionIs, FirstIs};
 ghost use Rattle.script.specs.Numbers.{NumberIs};
 ghost use Rattle.script.specs.Words.{texts, Numbers, NoNumbers, Written, NoPoint, Ends, NoBox};
@@ -25,6 +25,7 @@ pub fn parse_number(word: &str, limit: u64) -> Result<u64, Reason>
 pub(crate) fn parse_as<T: TryFrom<u64>>(word: &str) -> Result<T, Reason>
 where
     T::Error: Drop,
+    ensures { MatchResult result (λ v. (k : ℕ) × NumberIs word.now (2 ^ 64 - 1) (Some k) × T.try_from_gives k (Ok v)) (λ e. e ≡ is_number) }
 {
     T::try_from(parse_number(word, u64::MAX)?).map_err(|_| Reason::Number)
 }
