@@ -28,19 +28,6 @@ one_more ts vs us k v len us-is here before i lt =
       | inr past ↦ let e : i ≡ k = omega arith in rw e (rw (get_or_push vs v 0 k len) here)
     ])
 
--- the words write one row of numbers only
-pub same_numbers : (ts : List (List ℕ)) (vs us : List ℕ) → Numbers ts vs → Numbers ts us → vs ≡ us
-same_numbers ts vs us a b =
-    ext_get_or 0 vs us (a.0 ∙ sym b.0) (λ i lt. (a.1 i lt).1 ∙ sym (b.1 i (omega (arith, a.0, b.0))).1)
-
--- a word that writes no number
-pub none_written : (n : ℕ) (ts : List (List ℕ)) (i : ℕ) → i < length ts → NumberIs (get_or ts i []) M None → (x : Point) → Written n ts x → ⊥
-none_written n ts i lt never x w = never (w.1.1 i (omega (arith, w.1.0))).0
-
--- numbers that make no point
-pub no_point : (n : ℕ) (ts : List (List ℕ)) (vs : List ℕ) → Numbers ts vs → PointIs n vs None → (x : Point) → Written n ts x → ⊥
-no_point n ts vs a never x w = never (subst (λ (us : List ℕ). PointIs n us (Some x)) (same_numbers ts w.0 vs w.1 a) w.2).0
-
 -- too few words or too many
 pub wrong_number : (n : ℕ) (ts : List (List ℕ)) → (length ts ≡ n → ⊥) → (length ts ≡ 4 → ⊥) → (x : Point) → Written n ts x → ⊥
 wrong_number n ts not-n not-four x w =

@@ -3,7 +3,9 @@ use std::alloc::{AllocError, Global};
 
 // The words of a line: what stands between spaces.
 pub fn split_words(heap: Global, line: &str) -> Result<Vec<&str>, AllocError> {
-    line.split(' ').filter(|word| !word.is_empty()).collect(heap)
+    line.split(' ')
+        .filter(|word| !word.is_empty())
+        .collect(heap)
 }
 
 // The words with single spaces between them.

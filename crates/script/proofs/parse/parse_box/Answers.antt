@@ -18,7 +18,6 @@ returns-in_err-high c =
     let p = err_from_is_err_and c.from_residual-in_err-high.result c.from_residual-in_err-high.ensures.1 in
     rw (p.1, p.2) (no_high c.args.words.now c.args.n c.in_err-high.field-0.0 (rw c.split_at.ensures.back at c.in_err-high.ensures))
 
-
 pub returns-in_err-new : goal.returns-in_err-new
 returns-in_err-new c =
     let ws = c.args.words.now in
