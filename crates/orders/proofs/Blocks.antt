@@ -1,10 +1,10 @@
 -- A block of addresses against a box.
-use Rattle.std.proofs.Common.{◌≡◌, ℕ, zero, suc, ◌+◌, ◌-◌, ◌*◌, ◌/◌, ◌^◌, ◌<◌, ◌≤◌, ◌⊎◌, List, get_or, set, Some, None, Option, sym, ap, ◌∙◌, inl, inr, mod-lt, zero-mul, div-one, arith, pow_pos, shr-shr}
-use native.Mathlib.Nat.{sub_self, pow-zero, div-eq_of_lt, sub-zero}
+use Rattle.std.proofs.Common.{◌≡◌, ℕ, zero, suc, ◌+◌, ◌-◌, ◌*◌, ◌/◌, ◌^◌, ◌<◌, ◌≤◌, ◌⊎◌, List, get_or, Some, None, Option, sym, ap, ◌∙◌, inl, inr, mod-lt, zero-mul, arith, pow_pos, shr-shr}
+use native.Mathlib.Nat.{div-eq_of_lt}
 use lib.Pow.{shr_mono}
 use Rattle.std.proofs.lemmas.Nat.{shr_split}
-use Rattle.std.proofs.lemmas.Bool.{cases_eq, cases_lt}
-use Rattle.orders.specs.Spaces.{InSpace, Within}
+use Rattle.std.proofs.lemmas.Bool.{cases_eq}
+use Rattle.orders.specs.Spaces.{InSpace}
 use Rattle.orders.specs.Interleave.{grown, point_at, address_of, Schedule, Touches, Hit, Least, lacking}
 use Rattle.orders.specs.Orders.{FirstIs}
 use Rattle.orders.specs.Laws.{prefix, room, point_more, pow_more}

@@ -1,5 +1,5 @@
 -- The laws of addresses that a rule makes.
-use Rattle.std.specs.Prelude.{◌≡◌, ℕ, zero, suc, ◌+◌, ◌-◌, ◌*◌, ◌/◌, ◌%◌, ◌^◌, ◌<◌, ◌≤◌, List, length, set, slice_index, slice_index_or, slice_set, refl}
+use Rattle.std.specs.Prelude.{◌≡◌, ℕ, zero, suc, ◌+◌, ◌-◌, ◌*◌, ◌/◌, ◌%◌, ◌^◌, ◌<◌, ◌≤◌, List, length, set, slice_index, slice_index_or, refl}
 use Rattle.std.proofs.Common.{sym, ap, ap₂, ◌∙◌, inl, inr, pow-suc, add-suc, add-zero, div-one, add-one, arith, length-set, get_or-set_same, get_or-set_other, set-set, ext_get_or, pow_pos, pow_mono, shr-shr}
 use Rattle.std.proofs.Math.Nat.{sub_self, pow-zero}
 use Rattle.std.proofs.lemmas.Bool.{cases_eq, cases_lt}

@@ -76,12 +76,8 @@ impl QueryBox {
     pub fn new(low: Point, high: Point) -> Result<QueryBox, Refusal>
         ensures { MatchResult result (λ b. (b.low ≡ low) × (b.high ≡ high)) (λ f. (f ≡ BoxEnds) × (Ordered low.coords high.coords → ⊥)) }
     {
-        if low
-            .coords
-            .iter()
-            .zip(high.coords.iter())
-            .any(|(a, b)| a > b)
-        {
+        let (a, b) = (low.coords, high.coords);
+        if a.iter().zip(b.iter()).any(|(x, y)| x > y) {
             return Err(Refusal::BoxEnds);
         }
         Ok(QueryBox { low, high })
@@ -103,16 +99,8 @@ impl QueryBox {
     pub fn contains(&self, x: Point) -> bool
         ensures { Decides result (Within self.now.low.coords self.now.high.coords x.coords) }
     {
-        let above = self
-            .low
-            .coords
-            .iter()
-            .zip(x.coords.iter())
-            .all(|(a, c)| a <= c);
-        above
-            && x.coords
-                .iter()
-                .zip(self.high.coords.iter())
-                .all(|(c, b)| c <= b)
+        let (a, c, b) = (self.low.coords, x.coords, self.high.coords);
+        let above = a.iter().zip(c.iter()).all(|(x, y)| x <= y);
+        above && c.iter().zip(b.iter()).all(|(y, z)| y <= z)
     }
 }

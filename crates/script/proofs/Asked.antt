@@ -1,6 +1,5 @@
 -- The questions that words write.
 use Rattle.std.proofs.Common.{◌≡◌, ℕ, ◌+◌, ◌-◌, ◌^◌, ◌<◌, ◌≤◌, List, [], length, get_or, take, Some, None, Err, codes, sym, ap, ◌∙◌, subst, arith, Bor}
-use native.Mathlib.Nat.{sub-zero}
 use Rattle.std.proofs.lemmas.List.{length-map, take-map}
 use Rattle.orders.specs.declared.space.QueryBox.{QueryBox}
 use Rattle.script.specs.Numbers.{NumberIs}
@@ -19,12 +18,12 @@ module _ (ws : List (Bor (List ℕ))) where
   len : length (texts ws) ≡ length ws
   len = length-map ws (λ (w : Bor (List ℕ)). w.now)
 
-  box_words : texts (take (length ws - 2 - 0) ws) ≡ take (length ws - 2) (texts ws)
-  box_words = ap (λ (k : ℕ). texts (take k ws)) (sub-zero (length ws - 2)) ∙ sym (take-map (λ (w : Bor (List ℕ)). w.now) (length ws - 2) ws)
+  box_words : texts (take (length ws - 2) ws) ≡ take (length ws - 2) (texts ws)
+  box_words = sym (take-map (λ (w : Bor (List ℕ)). w.now) (length ws - 2) ws)
 
   -- a box, `from` and an address, the last two by their places
   pub first_written : (n : ℕ) (b : QueryBox) (a : ℕ) → 2 ≤ length ws → (get_or ws (length ws - 2) past).now ≡ codes "from"
-      → NumberIs (get_or ws (length ws - 1) past).now M (Some a) → Ends n (texts (take (length ws - 2 - 0) ws)) b.low b.high → FirstWritten n (texts ws) b a
+      → NumberIs (get_or ws (length ws - 1) past).now M (Some a) → Ends n (texts (take (length ws - 2) ws)) b.low b.high → FirstWritten n (texts ws) b a
   first_written n b a two from number ends =
       let k : ℕ = length ws - 2 in
       let more : length ws - 1 ≡ k + 1 = omega arith in (
@@ -36,21 +35,13 @@ module _ (ws : List (Bor (List ℕ))) where
         subst (λ (ts : List (List ℕ)). Ends n ts b.low b.high) box_words ends,
       )
 
-  pub first_short : (n : ℕ) → length ws < 2 → (b : QueryBox) (a : ℕ) → FirstWritten n (texts ws) b a → ⊥
-  first_short n short b a w = omega (arith, len, w.1)
-
-  pub first_other : (n : ℕ) → 2 ≤ length ws → ((get_or ws (length ws - 2) past).now ≡ codes "from" → ⊥) → (b : QueryBox) (a : ℕ) → FirstWritten n (texts ws) b a → ⊥
-  first_other n two never b a w =
-      let k : w.0 ≡ length ws - 2 = omega (arith, len, w.1) in
-      never (sym (text_at ws (length ws - 2) (omega arith)) ∙ subst (λ (i : ℕ). get_or (texts ws) i [] ≡ codes "from") k w.2)
-
   pub first_unnumbered : (n : ℕ) → 2 ≤ length ws → NumberIs (get_or ws (length ws - 1) past).now M None → (b : QueryBox) (a : ℕ) → FirstWritten n (texts ws) b a → ⊥
   first_unnumbered n two never b a w =
       let k : w.0 + 1 ≡ length ws - 1 = omega (arith, len, w.1) in
       let at : NumberIs (get_or (texts ws) (length ws - 1) []) M (Some a) = subst (λ (i : ℕ). NumberIs (get_or (texts ws) i []) M (Some a)) k w.3 in
       never (subst (λ (t : List ℕ). NumberIs t M (Some a)) (text_at ws (length ws - 1) (omega arith)) at).0
 
-  pub first_no_box : (n : ℕ) (e : Trouble) → 2 ≤ length ws → NoBox n (texts (take (length ws - 2 - 0) ws)) e → FirstIs n (texts ws) (Err e)
+  pub first_no_box : (n : ℕ) (e : Trouble) → 2 ≤ length ws → NoBox n (texts (take (length ws - 2) ws)) e → FirstIs n (texts ws) (Err e)
   first_no_box n (Unclear r) two h =
       λ b a w.
       let k : w.0 ≡ length ws - 2 = omega (arith, len, w.1) in
@@ -61,20 +52,6 @@ module _ (ws : List (Bor (List ℕ))) where
       let high = h.1.1 in
       (h.0, (length ws - 2, omega (arith, len), (low, high, subst (λ (ts : List (List ℕ)). Ends n ts low high) box_words h.1.2, h.1.3)))
   first_no_box n Memory two h = tt
-
-  -- `point` asks with one number
-  pub point_written : (a : ℕ) → length ws ≡ 1 → NumberIs (get_or ws 0 past).now M (Some a) → (length (texts ws) ≡ 1) × NumberIs (get_or (texts ws) 0 []) M (Some a)
-  point_written a one number = (len ∙ one, subst (λ (t : List ℕ). NumberIs t M (Some a)) (sym (text_at ws 0 (omega arith))) number)
-
-  pub point_words : (n : ℕ) (verb : List ℕ) → verb ≡ codes "point" → (length ws ≡ 1 → ⊥) → (q : Question) → Asks n verb (texts ws) q → ⊥
-  point_words n verb is never (AddressOf x) asks = absurd (omega (arith, ap (λ (t : List ℕ). get_or t 0 0) (sym is ∙ asks.0)))
-  point_words n verb is never (PointOf a) asks = never (sym len ∙ asks.1)
-  point_words n verb is never (FirstOf b a) asks = absurd (omega (arith, ap (λ (t : List ℕ). get_or t 0 0) (sym is ∙ asks.0)))
-
-  pub point_unnumbered : (n : ℕ) (verb : List ℕ) → verb ≡ codes "point" → length ws ≡ 1 → NumberIs (get_or ws 0 past).now M None → (q : Question) → Asks n verb (texts ws) q → ⊥
-  point_unnumbered n verb is one never (AddressOf x) asks = absurd (omega (arith, ap (λ (t : List ℕ). get_or t 0 0) (sym is ∙ asks.0)))
-  point_unnumbered n verb is one never (PointOf a) asks = never (subst (λ (t : List ℕ). NumberIs t M (Some a)) (text_at ws 0 (omega arith)) asks.2).0
-  point_unnumbered n verb is one never (FirstOf b a) asks = absurd (omega (arith, ap (λ (t : List ℕ). get_or t 0 0) (sym is ∙ asks.0)))
 
 -- `address` asks with a point
 pub address_words : (n : ℕ) (verb : List ℕ) (ts : List (List ℕ)) (e : Trouble) → verb ≡ codes "address" → NoPoint n ts e → QuestionIs n verb ts (Err e)

@@ -1,7 +1,6 @@
 -- Rows of words and the numbers that they write.
 use Rattle.std.proofs.Common.{◌≡◌, ℕ, ◌+◌, ◌-◌, ◌/◌, ◌%◌, ◌^◌, ◌<◌, List, [], ◌∷◌, ◌++◌, length, get_or, take, drop, Some, None, sym, ap, ◌∙◌, subst, inl, inr, arith, ext_get_or, Bor}
-use native.Mathlib.Nat.{sub-zero}
-use Rattle.std.proofs.lemmas.List.{get_or-map, length-map, length-drop, take-map, drop-map, take_all, get_or_append_left, get_or_push}
+use Rattle.std.proofs.lemmas.List.{get_or-map, length-map, take-map, drop-map, get_or_append_left, get_or_push}
 use Rattle.std.proofs.lemmas.Bool.{cases_lt}
 use Rattle.orders.specs.declared.point.Point.{Point}
 use Rattle.script.specs.Numbers.{NumberIs, PointIs}
@@ -29,19 +28,6 @@ one_more ts vs us k v len us-is here before i lt =
       | inr past ↦ let e : i ≡ k = omega arith in rw e (rw (get_or_push vs v 0 k len) here)
     ])
 
--- the words write one row of numbers only
-pub same_numbers : (ts : List (List ℕ)) (vs us : List ℕ) → Numbers ts vs → Numbers ts us → vs ≡ us
-same_numbers ts vs us a b =
-    ext_get_or 0 vs us (a.0 ∙ sym b.0) (λ i lt. (a.1 i lt).1 ∙ sym (b.1 i (omega (arith, a.0, b.0))).1)
-
--- a word that writes no number
-pub none_written : (n : ℕ) (ts : List (List ℕ)) (i : ℕ) → i < length ts → NumberIs (get_or ts i []) M None → (x : Point) → Written n ts x → ⊥
-none_written n ts i lt never x w = never (w.1.1 i (omega (arith, w.1.0))).0
-
--- numbers that make no point
-pub no_point : (n : ℕ) (ts : List (List ℕ)) (vs : List ℕ) → Numbers ts vs → PointIs n vs None → (x : Point) → Written n ts x → ⊥
-no_point n ts vs a never x w = never (subst (λ (us : List ℕ). PointIs n us (Some x)) (same_numbers ts w.0 vs w.1 a) w.2).0
-
 -- too few words or too many
 pub wrong_number : (n : ℕ) (ts : List (List ℕ)) → (length ts ≡ n → ⊥) → (length ts ≡ 4 → ⊥) → (x : Point) → Written n ts x → ⊥
 wrong_number n ts not-n not-four x w =
@@ -49,14 +35,11 @@ wrong_number n ts not-n not-four x w =
 
 -- The two halves of the words of a box.
 module _ (ws : List (Bor (List ℕ))) where
-  low_half : texts (take (length ws / 2 - 0) ws) ≡ take (length ws / 2) (texts ws)
-  low_half = ap (λ (k : ℕ). texts (take k ws)) (sub-zero (length ws / 2)) ∙ sym (take-map (λ (w : Bor (List ℕ)). w.now) (length ws / 2) ws)
+  low_half : texts (take (length ws / 2) ws) ≡ take (length ws / 2) (texts ws)
+  low_half = sym (take-map (λ (w : Bor (List ℕ)). w.now) (length ws / 2) ws)
 
-  high_half : texts (take (length ws - length ws / 2) (drop (length ws / 2) ws)) ≡ drop (length ws / 2) (texts ws)
-  high_half =
-      let all : take (length ws - length ws / 2) (drop (length ws / 2) ws) ≡ drop (length ws / 2) ws =
-      take_all (length ws - length ws / 2) (drop (length ws / 2) ws) (omega (arith, length-drop (length ws / 2) ws)) in
-      ap texts all ∙ sym (drop-map (λ (w : Bor (List ℕ)). w.now) (length ws / 2) ws)
+  high_half : texts (drop (length ws / 2) ws) ≡ drop (length ws / 2) (texts ws)
+  high_half = sym (drop-map (λ (w : Bor (List ℕ)). w.now) (length ws / 2) ws)
 
   middle : (k : ℕ) → length (texts ws) ≡ k + k → k ≡ length ws / 2
   middle k e = omega (arith, length-map ws (λ (w : Bor (List ℕ)). w.now))
@@ -64,8 +47,8 @@ module _ (ws : List (Bor (List ℕ))) where
   pub odd : (n : ℕ) → (length ws % 2 ≡ 0 → ⊥) → (low high : Point) → Ends n (texts ws) low high → ⊥
   odd n never low high ends = never (omega (arith, length-map ws (λ (w : Bor (List ℕ)). w.now), ends.1))
 
-  pub ends : (n : ℕ) (low high : Point) → length ws % 2 ≡ 0 → Written n (texts (take (length ws / 2 - 0) ws)) low
-      → Written n (texts (take (length ws - length ws / 2) (drop (length ws / 2) ws))) high → Ends n (texts ws) low high
+  pub ends : (n : ℕ) (low high : Point) → length ws % 2 ≡ 0 → Written n (texts (take (length ws / 2) ws)) low
+      → Written n (texts (drop (length ws / 2) ws)) high → Ends n (texts ws) low high
   ends n low high even a b = (
     length ws / 2,
     omega (arith, length-map ws (λ (w : Bor (List ℕ)). w.now)),
@@ -73,13 +56,13 @@ module _ (ws : List (Bor (List ℕ))) where
     subst (λ (ts : List (List ℕ)). Written n ts high) high_half b,
   )
 
-  pub no_low : (n : ℕ) (e : Trouble) → NoPoint n (texts (take (length ws / 2 - 0) ws)) e → NoBox n (texts ws) e
+  pub no_low : (n : ℕ) (e : Trouble) → NoPoint n (texts (take (length ws / 2) ws)) e → NoBox n (texts ws) e
   no_low n (Unclear r) h =
       λ low high w. h low (subst (λ (ts : List (List ℕ)). Written n ts low) (ap (λ (k : ℕ). take k (texts ws)) (middle w.0 w.1) ∙ sym low_half) w.2)
   no_low n (Refused f) h = absurd h
   no_low n Memory h = tt
 
-  pub no_high : (n : ℕ) (e : Trouble) → NoPoint n (texts (take (length ws - length ws / 2) (drop (length ws / 2) ws))) e → NoBox n (texts ws) e
+  pub no_high : (n : ℕ) (e : Trouble) → NoPoint n (texts (drop (length ws / 2) ws)) e → NoBox n (texts ws) e
   no_high n (Unclear r) h =
       λ low high w. h high (subst (λ (ts : List (List ℕ)). Written n ts high) (ap (λ (k : ℕ). drop k (texts ws)) (middle w.0 w.1) ∙ sym high_half) w.3)
   no_high n (Refused f) h = absurd h

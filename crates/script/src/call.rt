@@ -1,5 +1,5 @@
 // Lines that call: a question to the order, an access to the store, or a call of the index.
-use crate::parse::{parse_number, parse_point, parse_question};
+use crate::parse::{parse_as, parse_point, parse_question};
 use crate::question::Question;
 use crate::reason::Reason;
 use crate::trouble::Trouble;
@@ -7,7 +7,7 @@ use orders::point::Point;
 use std::alloc::Global;
 
 // The calls of the index.
-#[derive(Clone, Copy)]
+#[derive(Clone, Copy, PartialEq, Eq, Debug)]
 pub enum IndexCall {
     // the charge: how many page accesses the cell still carries
     Grant(u32),
@@ -24,7 +24,7 @@ pub enum IndexCall {
 }
 
 // An access to the store itself, past the index.
-#[derive(Clone, Copy)]
+#[derive(Clone, Copy, PartialEq, Eq, Debug)]
 pub enum Access {
     // a page of the store
     Read(u16),
@@ -32,7 +32,7 @@ pub enum Access {
     Write(u16, u8),
 }
 
-#[derive(Clone, Copy)]
+#[derive(Clone, Copy, PartialEq, Eq, Debug)]
 pub enum Call {
     Ask(Question),
     Access(Access),
@@ -42,59 +42,35 @@ pub enum Call {
 // The work records that an opening is lent where the line does not say.
 const WORK: u32 = 64;
 
-fn parse_access(verb: &str, words: &[&str]) -> Result<Option<Access>, Trouble> {
-    if verb == "read" {
-        let [page] = words else {
-            return Err(Trouble::Unclear(Reason::Words));
-        };
-        return Ok(Some(Access::Read(parse_number(page, 65535)? as u16)));
+fn parse_access(verb: &str, words: &[&str]) -> Result<Option<Access>, Reason> {
+    match (verb, words) {
+        ("read", [page]) => Ok(Some(Access::Read(parse_as(page)?))),
+        ("write", [page, byte]) => Ok(Some(Access::Write(parse_as(page)?, parse_as(byte)?))),
+        ("read" | "write", _) => Err(Reason::Words),
+        _ => Ok(None),
     }
-    if verb == "write" {
-        let [page, byte] = words else {
-            return Err(Trouble::Unclear(Reason::Words));
-        };
-        let page = parse_number(page, 65535)?;
-        return Ok(Some(Access::Write(page as u16, parse_number(byte, 255)? as u8)));
-    }
-    Ok(None)
 }
 
 // `open`, or `open work RECORDS`.
-fn parse_open(words: &[&str]) -> Result<IndexCall, Trouble> {
+fn parse_open(words: &[&str]) -> Result<IndexCall, Reason> {
     match words {
         [] => Ok(IndexCall::Open(WORK)),
-        [work, records] => {
-            if *work != "work" {
-                return Err(Trouble::Unclear(Reason::Command));
-            }
-            Ok(IndexCall::Open(parse_number(records, 4294967295)? as u32))
-        }
-        _ => Err(Trouble::Unclear(Reason::Words)),
+        ["work", records] => parse_as(records).map(IndexCall::Open),
+        [_, _] => Err(Reason::Command),
+        _ => Err(Reason::Words),
     }
 }
 
 // The calls that name no point.
-fn parse_plain(verb: &str, words: &[&str]) -> Result<Option<IndexCall>, Trouble> {
-    if verb == "grant" {
-        let [charge] = words else {
-            return Err(Trouble::Unclear(Reason::Words));
-        };
-        return Ok(Some(IndexCall::Grant(parse_number(charge, 4294967295)? as u32)));
+fn parse_plain(verb: &str, words: &[&str]) -> Result<Option<IndexCall>, Reason> {
+    match (verb, words) {
+        ("grant", [charge]) => Ok(Some(IndexCall::Grant(parse_as(charge)?))),
+        ("open", _) => parse_open(words).map(Some),
+        ("format", []) => Ok(Some(IndexCall::Format)),
+        ("shut", []) => Ok(Some(IndexCall::Shut)),
+        ("grant" | "format" | "shut", _) => Err(Reason::Words),
+        _ => Ok(None),
     }
-    if verb == "open" {
-        return Ok(Some(parse_open(words)?));
-    }
-    let call = if verb == "format" {
-        IndexCall::Format
-    } else if verb == "shut" {
-        IndexCall::Shut
-    } else {
-        return Ok(None);
-    };
-    if !words.is_empty() {
-        return Err(Trouble::Unclear(Reason::Words));
-    }
-    Ok(Some(call))
 }
 
 fn parse_index_call(
@@ -103,16 +79,13 @@ fn parse_index_call(
     words: &[&str],
     n: u8,
 ) -> Result<Option<IndexCall>, Trouble> {
-    if verb == "lodge" {
-        return Ok(Some(IndexCall::Lodge(parse_point(heap, words, n)?)));
-    }
-    if verb == "withdraw" {
-        return Ok(Some(IndexCall::Withdraw(parse_point(heap, words, n)?)));
-    }
-    if verb == "tally" {
-        return Ok(Some(IndexCall::Tally(parse_point(heap, words, n)?)));
-    }
-    parse_plain(verb, words)
+    let call: fn(Point) -> IndexCall = match verb {
+        "lodge" => IndexCall::Lodge,
+        "withdraw" => IndexCall::Withdraw,
+        "tally" => IndexCall::Tally,
+        _ => return Ok(parse_plain(verb, words)?),
+    };
+    Ok(Some(call(parse_point(heap, words, n)?)))
 }
 
 // A call, in a space of n coordinates: its words without the first. None where the first word calls nothing.
@@ -128,8 +101,5 @@ pub fn parse_call(
     if let Some(call) = parse_index_call(heap, verb, words, n)? {
         return Ok(Some(Call::Index(call)));
     }
-    match parse_question(heap, verb, words, n)? {
-        Some(question) => Ok(Some(Call::Ask(question))),
-        None => Ok(None),
-    }
+    Ok(parse_question(heap, verb, words, n)?.map(Call::Ask))
 }

@@ -14,13 +14,11 @@ pub enum Line<'a> {
 // Reads a line's words, where the space has n coordinates.
 pub fn parse_line<'a>(heap: Global, words: &[&'a str], n: u8) -> Result<Line<'a>, Trouble> {
     let [verb, rest @ ..] = words else {
-        return Err(Trouble::Unclear(Reason::Command));
+        return Err(Reason::Command.into());
     };
     if let Some(setup) = parse_setup(heap, verb, rest)? {
         return Ok(Line::Setup(setup));
     }
-    match parse_call(heap, verb, rest, n)? {
-        Some(call) => Ok(Line::Call(call)),
-        None => Err(Trouble::Unclear(Reason::Command)),
-    }
+    let call = parse_call(heap, verb, rest, n)?.ok_or(Reason::Command)?;
+    Ok(Line::Call(call))
 }

@@ -1,28 +1,20 @@
 // Numbers in decimal.
-ghost use Rattle.std.specs.Prelude.{◌≡◌, true, false};
+ghost use Rattle.std.specs.Prelude.{Decides};
 ghost use Rattle.script.specs.Numbers.{Digits, NumberIs};
 
-fn is_digits(bytes: &[u8]) -> bool
-    ensures yes { result ≡ true → Digits bytes.now }
-    ensures never { result ≡ false → Digits bytes.now → ⊥ }
+fn is_digits(word: &str) -> bool
+    ensures { Decides result (Digits word.now) }
 {
-    for b in bytes {
-        if *b < 48 || *b > 57 {
-            return false;
-        }
-    }
-    true
+    word.as_bytes().iter().all(|b| b.is_ascii_digit())
 }
 
 // The number that a word of digits alone writes; none for any other word, and for a number above the limit.
 pub fn number(word: &str, limit: u64) -> Option<u64>
     ensures { NumberIs word.now limit result }
 {
-    if !is_digits(word.as_bytes()) {
+    if !is_digits(word) {
         return None;
     }
-    match word.parse::<u64>() {
-        Ok(v) => { if v <= limit { Some(v) } else { None } }
-        Err(_) => None,
-    }
+    let v = word.parse::<u64>().ok()?;
+    (v <= limit).then_some(v)
 }

@@ -1,5 +1,5 @@
 // Lines that ask the order alone.
-ghost use Rattle.std.specs.Prelude.{◌≡◌, Some, None, MatchResult};
+ghost use Rattle.std.specs.Prelude.{◌≡◌, ℕ, ◌-◌, ◌^◌, Some, None, MatchResult};
 ghost use Rattle.script.specs.Grammar.{QuestionIs, FirstIs};
 ghost use Rattle.script.specs.Numbers.{NumberIs};
 ghost use Rattle.script.specs.Words.{texts, Numbers, NoNumbers, Written, NoPoint, Ends, NoBox};
@@ -18,10 +18,16 @@ use std::alloc::Global;
 pub fn parse_number(word: &str, limit: u64) -> Result<u64, Reason>
     ensures { MatchResult result (λ v. NumberIs word.now limit (Some v)) (λ e. (e ≡ is_number) × NumberIs word.now limit None) }
 {
-    match number(word, limit) {
-        Some(v) => Ok(v),
-        None => Err(Reason::Number),
-    }
+    number(word, limit).ok_or(Reason::Number)
+}
+
+// A number that fits the type.
+pub(crate) fn parse_as<T: TryFrom<u64>>(word: &str) -> Result<T, Reason>
+where
+    T::Error: Drop,
+    ensures { MatchResult result (λ v. (k : ℕ) × NumberIs word.now (2 ^ 64 - 1) (Some k) × T.try_from_gives k (Ok v)) (λ e. e ≡ is_number) }
+{
+    T::try_from(parse_number(word, u64::MAX)?).map_err(|_| Reason::Number)
 }
 
 fn parse_numbers(heap: Global, words: &[&str]) -> Result<Vec<u64>, Trouble>
@@ -43,41 +49,30 @@ pub fn parse_point(heap: Global, words: &[&str], n: u8) -> Result<Point, Trouble
         return Err(Trouble::Unclear(Reason::Words));
     }
     let numbers = parse_numbers(heap, words)?;
-    match point_of(numbers.as_slice(), n) {
-        Some(x) => Ok(x),
-        None => Err(Trouble::Unclear(Reason::Number)),
-    }
+    Ok(point_of(numbers.as_slice(), n).ok_or(Reason::Number)?)
 }
 
 // A box: its low point and then its high point.
 pub fn parse_box(heap: Global, words: &[&str], n: u8) -> Result<QueryBox, Trouble>
     ensures { MatchResult result (λ b. Ends n (texts words.now) b.low b.high) (NoBox n (texts words.now)) }
 {
-    let half = words.len() / 2;
     if words.len() % 2 != 0 {
         return Err(Trouble::Unclear(Reason::Words));
     }
-    let low = parse_point(heap, &words[0..half], n)?;
-    let high = parse_point(heap, &words[half..words.len()], n)?;
-    match QueryBox::new(low, high) {
-        Ok(b) => Ok(b),
-        Err(refusal) => Err(Trouble::Refused(refusal)),
-    }
+    let (low, high) = words.split_at(words.len() / 2);
+    let low = parse_point(heap, low, n)?;
+    let high = parse_point(heap, high, n)?;
+    Ok(QueryBox::new(low, high)?)
 }
 
 fn parse_first(heap: Global, words: &[&str], n: u8) -> Result<Question, Trouble>
     ensures { FirstIs n (texts words.now) result }
 {
-    let len = words.len();
-    if len < 2 {
+    let [ends @ .., "from", start] = words else {
         return Err(Trouble::Unclear(Reason::Words));
-    }
-    let is_from = words[len - 2] == "from";
-    if !is_from {
-        return Err(Trouble::Unclear(Reason::Words));
-    }
-    let start = parse_number(words[len - 1], u64::MAX)?;
-    let b = parse_box(heap, &words[0..len - 2], n)?;
+    };
+    let start = parse_number(start, u64::MAX)?;
+    let b = parse_box(heap, ends, n)?;
     Ok(Question::FirstOf(b, start))
 }
 
@@ -90,17 +85,16 @@ pub fn parse_question(
 ) -> Result<Option<Question>, Trouble>
     ensures { QuestionIs n verb.now (texts words.now) result }
 {
-    if verb == "address" {
-        return Ok(Some(Question::AddressOf(parse_point(heap, words, n)?)));
-    }
-    if verb == "point" {
-        if words.len() != 1 {
-            return Err(Trouble::Unclear(Reason::Words));
+    let question = match verb {
+        "address" => Question::AddressOf(parse_point(heap, words, n)?),
+        "point" => {
+            let [word] = words else {
+                return Err(Trouble::Unclear(Reason::Words));
+            };
+            Question::PointOf(parse_number(word, u64::MAX)?)
         }
-        return Ok(Some(Question::PointOf(parse_number(words[0], u64::MAX)?)));
-    }
-    if verb == "first" {
-        return Ok(Some(parse_first(heap, words, n)?));
-    }
-    Ok(None)
+        "first" => parse_first(heap, words, n)?,
+        _ => return Ok(None),
+    };
+    Ok(Some(question))
 }

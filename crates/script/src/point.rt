@@ -14,10 +14,7 @@ pub fn point_of(numbers: &[u64], n: u8) -> Option<Point>
     }
     let mut coords = [0u16; 4];
     for (j, x) in numbers.iter().enumerate() {
-        if *x > 65535 {
-            return None;
-        }
-        coords[j] = *x as u16;
+        coords[j] = u16::try_from(*x).ok()?;
     }
     Some(Point { coords })
 }

@@ -5,7 +5,7 @@ use orders::order::PointOrder;
 use orders::point::Point;
 use orders::space::QueryBox;
 
-#[derive(Clone, Copy)]
+#[derive(Clone, Copy, PartialEq, Eq, Debug)]
 pub enum Question {
     // which address has the point?
     AddressOf(Point),
@@ -15,29 +15,19 @@ pub enum Question {
     FirstOf(QueryBox, u64),
 }
 
-#[derive(Clone, Copy)]
+#[derive(Clone, Copy, PartialEq, Eq, Debug)]
 pub enum Answer {
-    Nothing,
     Address(u64),
     At(Point),
 }
 
-// Asks the order.
-pub fn ask<O: PointOrder>(order: &O, question: Question) -> Answer
+// Asks the order; none where no address or point answers.
+pub fn ask<O: PointOrder>(order: &O, question: Question) -> Option<Answer>
     ensures { Answered (O.meaning order.now) question result }
 {
     match question {
-        Question::AddressOf(x) => match order.address(x) {
-            Some(a) => Answer::Address(a),
-            None => Answer::Nothing,
-        },
-        Question::PointOf(a) => match order.point(a) {
-            Some(x) => Answer::At(x),
-            None => Answer::Nothing,
-        },
-        Question::FirstOf(b, from) => match order.first(&b, from) {
-            Some(a) => Answer::Address(a),
-            None => Answer::Nothing,
-        },
+        Question::AddressOf(x) => order.address(x).map(Answer::Address),
+        Question::PointOf(a) => order.point(a).map(Answer::At),
+        Question::FirstOf(b, from) => order.first(&b, from).map(Answer::Address),
     }
 }

@@ -1,7 +1,7 @@
 // Why a line of a script was not understood.
 use std::fmt;
 
-#[derive(Clone, Copy)]
+#[derive(Clone, Copy, PartialEq, Eq, Debug)]
 pub enum Reason {
     // the first word is no command, or the second no kind of it
     Command,

@@ -1,10 +1,10 @@
 // Set-up lines: the order, the store, its layers, and what is done with the memory at the end.
-use crate::parse::parse_number;
+use crate::parse::parse_as;
 use crate::reason::Reason;
 use crate::trouble::Trouble;
 use std::alloc::Global;
 
-#[derive(Clone, Copy)]
+#[derive(Clone, Copy, PartialEq, Eq, Debug)]
 pub enum OrderKind {
     Z,
     Row,
@@ -27,84 +27,59 @@ pub enum Setup<'a> {
     Save(&'a str),
 }
 
-fn parse_order<'a>(words: &[&'a str]) -> Result<Setup<'a>, Trouble> {
+fn parse_order<'a>(words: &[&'a str]) -> Result<Setup<'a>, Reason> {
     let [kind, n, p] = words else {
-        return Err(Trouble::Unclear(Reason::Words));
+        return Err(Reason::Words);
     };
-    let kind = if *kind == "z" {
-        OrderKind::Z
-    } else if *kind == "row" {
-        OrderKind::Row
-    } else {
-        return Err(Trouble::Unclear(Reason::Command));
+    let kind = match *kind {
+        "z" => OrderKind::Z,
+        "row" => OrderKind::Row,
+        _ => return Err(Reason::Command),
     };
-    let n = parse_number(n, 255)?;
-    let p = parse_number(p, 255)?;
-    Ok(Setup::Order(kind, n as u8, p as u8))
+    Ok(Setup::Order(kind, parse_as(n)?, parse_as(p)?))
 }
 
 // `memory PAGES`, or `memory PAGES erased 255`.
-fn parse_memory<'a>(words: &[&'a str]) -> Result<Setup<'a>, Trouble> {
+fn parse_memory<'a>(words: &[&'a str]) -> Result<Setup<'a>, Reason> {
     match words {
-        [pages] => Ok(Setup::Memory(parse_number(pages, 65535)? as u16, 0)),
-        [pages, erased, byte] => {
-            if *erased != "erased" {
-                return Err(Trouble::Unclear(Reason::Command));
+        [pages] => Ok(Setup::Memory(parse_as(pages)?, 0)),
+        [pages, "erased", byte] => {
+            let pages = parse_as(pages)?;
+            if parse_as::<u8>(byte)? != 255 {
+                return Err(Reason::Number);
             }
-            let pages = parse_number(pages, 65535)?;
-            if parse_number(byte, 255)? != 255 {
-                return Err(Trouble::Unclear(Reason::Number));
-            }
-            Ok(Setup::Memory(pages as u16, 255))
+            Ok(Setup::Memory(pages, 255))
         }
-        _ => Err(Trouble::Unclear(Reason::Words)),
+        [_, _, _] => Err(Reason::Command),
+        _ => Err(Reason::Words),
     }
 }
 
-fn parse_store<'a>(words: &[&'a str]) -> Result<Setup<'a>, Trouble> {
-    let [kind, rest @ ..] = words else {
-        return Err(Trouble::Unclear(Reason::Words));
-    };
-    if *kind == "memory" {
-        return parse_memory(rest);
+fn parse_store<'a>(words: &[&'a str]) -> Result<Setup<'a>, Reason> {
+    match words {
+        ["memory", rest @ ..] => parse_memory(rest),
+        ["image", file] => Ok(Setup::Image(file)),
+        ["slot", pages] => Ok(Setup::Slot(parse_as(pages)?)),
+        [] | ["image" | "slot", ..] => Err(Reason::Words),
+        _ => Err(Reason::Command),
     }
-    if *kind == "image" {
-        let [file] = rest else {
-            return Err(Trouble::Unclear(Reason::Words));
-        };
-        return Ok(Setup::Image(file));
-    }
-    if *kind == "slot" {
-        let [pages] = rest else {
-            return Err(Trouble::Unclear(Reason::Words));
-        };
-        return Ok(Setup::Slot(parse_number(pages, 65535)? as u16));
-    }
-    Err(Trouble::Unclear(Reason::Command))
 }
 
 fn parse_pages(heap: Global, words: &[&str]) -> Result<Vec<u16>, Trouble> {
     let mut pages = Vec::new(heap);
     for word in words {
-        pages.push(parse_number(word, 65535)? as u16)?;
+        pages.push(parse_as(word)?)?;
     }
     Ok(pages)
 }
 
 fn parse_layer<'a>(heap: Global, words: &[&'a str]) -> Result<Setup<'a>, Trouble> {
-    let [kind, rest @ ..] = words else {
-        return Err(Trouble::Unclear(Reason::Words));
-    };
-    if *kind == "turned" {
-        if !rest.is_empty() {
-            return Err(Trouble::Unclear(Reason::Words));
-        }
-        return Ok(Setup::Turned);
+    match words {
+        ["turned"] => Ok(Setup::Turned),
+        ["skip", pages @ ..] => Ok(Setup::Skip(parse_pages(heap, pages)?)),
+        [] | ["turned", ..] => Err(Reason::Words.into()),
+        _ => Err(Reason::Command.into()),
     }
-    if *kind == "skip" {
-        return Ok(Setup::Skip(parse_pages(heap, rest)?));
-    }
-    Err(Trouble::Unclear(Reason::Command))
 }
 
 // A set-up line: its words without the first, which says what is set up. None where the first word sets up nothing.
@@ -113,26 +88,13 @@ pub fn parse_setup<'a>(
     verb: &str,
     words: &[&'a str],
 ) -> Result<Option<Setup<'a>>, Trouble> {
-    if verb == "order" {
-        return Ok(Some(parse_order(words)?));
+    match (verb, words) {
+        ("order", _) => Ok(Some(parse_order(words)?)),
+        ("store", _) => Ok(Some(parse_store(words)?)),
+        ("layer", _) => Ok(Some(parse_layer(heap, words)?)),
+        ("dump", []) => Ok(Some(Setup::Dump)),
+        ("save", [file]) => Ok(Some(Setup::Save(file))),
+        ("dump" | "save", _) => Err(Reason::Words.into()),
+        _ => Ok(None),
     }
-    if verb == "store" {
-        return Ok(Some(parse_store(words)?));
-    }
-    if verb == "layer" {
-        return Ok(Some(parse_layer(heap, words)?));
-    }
-    if verb == "dump" {
-        if !words.is_empty() {
-            return Err(Trouble::Unclear(Reason::Words));
-        }
-        return Ok(Some(Setup::Dump));
-    }
-    if verb == "save" {
-        let [file] = words else {
-            return Err(Trouble::Unclear(Reason::Words));
-        };
-        return Ok(Some(Setup::Save(file)));
-    }
-    Ok(None)
 }

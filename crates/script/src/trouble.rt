@@ -1,16 +1,24 @@
 // Why a line has no other answer: it is refused by a number, or not understood, or memory is short.
 ghost use Rattle.std.specs.Prelude.{◌≡◌};
-ghost use Rattle.script.specs.declared.trouble.Trouble.TheVariants.{Unclear as is_unclear, Memory as is_memory};
+ghost use Rattle.script.specs.declared.trouble.Trouble.TheVariants.{Refused as is_refused, Unclear as is_unclear, Memory as is_memory};
 
 use crate::reason::Reason;
 use orders::refusal::Refusal;
 use std::alloc::{AllocError, AllocFailed};
 
-#[derive(Clone, Copy)]
+#[derive(Clone, Copy, PartialEq, Eq, Debug)]
 pub enum Trouble {
     Refused(Refusal),
     Unclear(Reason),
     Memory,
+}
+
+impl From<Refusal> for Trouble {
+    ghost from_gives = { λ e r. r ≡ is_refused e };
+
+    fn from(e: Refusal) -> Trouble {
+        Trouble::Refused(e)
+    }
 }
 
 impl From<Reason> for Trouble {

@@ -1,19 +1,13 @@
-use Rattle.script.proofs.Readings.{read_some, read_past, read_none}
+use Rattle.std.proofs.Common.{arith}
+use Rattle.script.proofs.Readings.{read_within, read_none}
 use Rattle.script.proofs.number.number.Goals as goal
-use Rattle.script.specs.Numbers.{Digits}
-use Rattle.std.proofs.Common.{ℕ, List, subst, arith}
 
-pub returns-then-v-limit : goal.returns-then-v-limit
-returns-then-v-limit c =
-    let digits = subst (λ (bs : List ℕ). Digits bs) c.as_bytes.ensures.value (c.is_digits.ensures.yes c.if-not-is_digits.false) in
-    read_some c.args.word.now c.args.limit c.in-Ok.v digits c.in-Ok.ensures.value.0 c.if-v-limit.true
+pub returns-in_err-v : goal.returns-in_err-v
+returns-in_err-v c =
+    rw c.from_residual.ensures
+    (read_none c.args.word.now c.args.limit c.parse.result (omega arith) (c.is_digits.ensures.0 c.if-not-is_digits.false) c.parse.ensures.value.0 c.in_err-v.ensures.value)
 
-pub returns-else-v-limit : goal.returns-else-v-limit
-returns-else-v-limit c =
-    let digits = subst (λ (bs : List ℕ). Digits bs) c.as_bytes.ensures.value (c.is_digits.ensures.yes c.if-not-is_digits.false) in
-    read_past c.args.word.now c.args.limit c.in-Ok.v digits c.in-Ok.ensures.value.0 c.if-v-limit.false
-
-pub returns-in-Err : goal.returns-in-Err
-returns-in-Err c =
-    let digits = subst (λ (bs : List ℕ). Digits bs) c.as_bytes.ensures.value (c.is_digits.ensures.yes c.if-not-is_digits.false) in
-    read_none c.args.word.now c.args.limit 0 (omega arith) digits c.in-Err.ensures.value.0
+pub returns : goal.returns
+returns c =
+    rw c.then_some.ensures
+    (read_within c.args.word.now c.args.limit c.parse.result c.in_ok-v.v (c.is_digits.ensures.0 c.if-not-is_digits.false) c.parse.ensures.value.0 c.in_ok-v.ensures.value)

@@ -11,27 +11,28 @@ returns-then-words-ne0 c = odd c.args.words.now c.args.n c.if-words-ne0.true
 pub returns-in_err-low : goal.returns-in_err-low
 returns-in_err-low c =
     let p = err_from_is_err_and c.from_residual.result c.from_residual.ensures.1 in
-    rw (p.1, p.2) (no_low c.args.words.now c.args.n c.in_err-low.field-0.0 c.in_err-low.ensures)
+    rw (p.1, p.2) (no_low c.args.words.now c.args.n c.in_err-low.field-0.0 (rw c.split_at.ensures.front at c.in_err-low.ensures))
 
 pub returns-in_err-high : goal.returns-in_err-high
 returns-in_err-high c =
     let p = err_from_is_err_and c.from_residual-in_err-high.result c.from_residual-in_err-high.ensures.1 in
-    rw (p.1, p.2) (no_high c.args.words.now c.args.n c.in_err-high.field-0.0 c.in_err-high.ensures)
+    rw (p.1, p.2) (no_high c.args.words.now c.args.n c.in_err-high.field-0.0 (rw c.split_at.ensures.back at c.in_err-high.ensures))
 
-pub returns-in-Ok : goal.returns-in-Ok
-returns-in-Ok c =
+pub returns-in_err-new : goal.returns-in_err-new
+returns-in_err-new c =
     let ws = c.args.words.now in
     let n = c.args.n in
-    let b = c.in-Ok.b in
-    let e = c.in-Ok.ensures in
-    let w = ends ws n c.in_ok-low.low c.in_ok-high.high c.if-words-ne0.false c.in_ok-low.ensures c.in_ok-high.ensures in
-    subst (λ (x : Point). Ends n (texts ws) x b.high) (sym e.0) (subst (λ (y : Point). Ends n (texts ws) c.in_ok-low.low y) (sym e.1) w)
-
-pub returns-in-Err : goal.returns-in-Err
-returns-in-Err c =
-    let ws = c.args.words.now in
-    let n = c.args.n in
-    let e = c.in-Err.ensures in
+    let e = c.in_err-new.ensures in
     let low = c.in_ok-low.low in
     let high = c.in_ok-high.high in
-    (e.0, (low, high, ends ws n low high c.if-words-ne0.false c.in_ok-low.ensures c.in_ok-high.ensures, e.1))
+    let p = err_from_is_err_and c.from_residual-in_err-new.result c.from_residual-in_err-new.ensures.1 in
+    rw (p.1, p.2) (e.0, (low, high, ends ws n low high c.if-words-ne0.false (rw c.split_at.ensures.front at c.in_ok-low.ensures) (rw c.split_at.ensures.back at c.in_ok-high.ensures), e.1))
+
+pub returns : goal.returns
+returns c =
+    let ws = c.args.words.now in
+    let n = c.args.n in
+    let b = c.in_ok-new.field-0 in
+    let e = c.in_ok-new.ensures in
+    let w = ends ws n c.in_ok-low.low c.in_ok-high.high c.if-words-ne0.false (rw c.split_at.ensures.front at c.in_ok-low.ensures) (rw c.split_at.ensures.back at c.in_ok-high.ensures) in
+    subst (λ (x : Point). Ends n (texts ws) x b.high) (sym e.0) (subst (λ (y : Point). Ends n (texts ws) c.in_ok-low.low y) (sym e.1) w)

@@ -6,9 +6,6 @@ use Rattle.script.specs.Words.{texts}
 use Rattle.script.proofs.Rows.{text_at, one_more}
 use Rattle.script.proofs.parse.parse_numbers.Goals as goal
 
-pub loop-word-init : goal.loop-word-init
-loop-word-init c = (ap length c.new-numbers.ensures.items, λ i lt. absurd (omega arith))
-
 pub returns-in_err-value : goal.returns-in_err-value
 returns-in_err-value c =
     let p = err_from_is_err_and c.from_residual.result c.from_residual.ensures.1 in
@@ -20,11 +17,6 @@ returns-in_err-value c =
     let none : NumberIs (get_or (texts ws) k []) (2 ^ 64 - 1) None = subst (λ (t : List ℕ). NumberIs t (2 ^ 64 - 1) None) (sym (text_at ws k lt)) h.1 in
     rw (p.1, p.2) (h.0, (k, omega arith, none))
 
-pub returns-in_err-push : goal.returns-in_err-push
-returns-in_err-push c =
-    let p = err_from_is_err_and c.from_residual-in_err-push.result c.from_residual-in_err-push.ensures.1 in
-    rw (p.1, p.2) tt
-
 pub loop-word-preserved : goal.loop-word-preserved
 loop-word-preserved c =
     let h = c.in_ok-value.ensures in
@@ -35,8 +27,3 @@ loop-word-preserved c =
     let lt : k < length ws = omega arith in
     let here : NumberIs (get_or (texts ws) k []) (2 ^ 64 - 1) (Some v) = subst (λ (t : List ℕ). NumberIs t (2 ^ 64 - 1) (Some v)) (sym (text_at ws k lt)) h in
     (ap length more ∙ length-append (vec_items c.loop-word.numbers) (c.in_ok-value.value ∷ []) ∙ ap (λ (n : ℕ). n + 1) c.loop-word.invariant.0, one_more (texts ws) (vec_items c.loop-word.numbers) (vec_items c.push.new.self) k v c.loop-word.invariant.0 more here c.loop-word.invariant.1)
-
-pub returns : goal.returns
-returns c =
-    let e = length-map c.args.words.now (λ w. w.now) in
-    (omega (arith, c.loop-word.invariant.0), λ i lt. c.loop-word.invariant.1 i (omega (arith, c.loop-word.invariant.0)))
