@@ -1,5 +1,5 @@
 -- A slot store by what it keeps: its making and its write.
-use Rattle.std.proofs.Common.{◌≡◌, ℕ, zero, suc, ◌+◌, ◌-◌, ◌<◌, ◌≤◌, min, max, Bool, true, false, cond, not, eqb, ◌≢◌, List, [], ◌∷◌, length, get_or, take, drop, set, replicate, Some, Ok, filter, sym, refl, ap, ◌∙◌, subst, inl, inr, arith}
+use Rattle.std.proofs.Common.{◌≡◌, ℕ, zero, suc, ◌+◌, ◌-◌, ◌<◌, ◌≤◌, min, max, Bool, true, false, cond, not, eqb, ◌≢◌, List, [], ◌∷◌, length, get_or, take, drop, set, replicate, Some, Ok, filter, Result, sym, refl, ap, ◌∙◌, subst, inl, inr, arith}
 use Rattle.std.proofs.lemmas.List.{length-drop, take_all, length-set, get_or-set_other}
 use Rattle.std.specs.List.{range_with_len, AllByRecursion}
 use Rattle.std.proofs.ByRecursion.{All-get_or, All-from_get_or, all_kept_by, kept_by_passes}
@@ -208,7 +208,7 @@ module _ (b : SlotStore) (s p : ℕ) (bytes ys : List ℕ) (t : Takes (numbers b
       same_old : slot_at slots₁ old ≡ slot_at b.row.slots.now old
       same_old = ap (λ (z : List (List ℕ)). slot_at z old) e₁ ∙ get_or-set_other b.row.slots.now (s - 1) (old - 1) (filled p bytes) [] differ
 
-      pub again : (slots₂ : List (List ℕ)) (zs : List ℕ) (u : Bool) → slots₂ ≡ set slots₁ (old - 1) (freed (slot_at slots₁ old)) → Puts old ys u zs → Written slots₂ zs
+      pub again : (slots₂ : List (List ℕ)) (zs : List ℕ) (u : Result (Unit {0}) ℕ) → slots₂ ≡ set slots₁ (old - 1) (freed (slot_at slots₁ old)) → Puts old ys u zs → Written slots₂ zs
       again slots₂ zs u e₂ k =
           let f : zs ≡ old ∷ ys = put_sure old ys zs u (omega arith) (let h = S.reach p in let g = S.few in omega arith) absent_old k in
           let e : slots₂ ≡ set (set b.row.slots.now (s - 1) (filled p bytes)) (old - 1) (freed (slot_at b.row.slots.now old)) =
@@ -231,9 +231,6 @@ module _ (b : SlotStore) (q : ℕ) (q1 : 1 ≤ q) (qn : q ≤ b.pages) where
 
   pub home_in : get_or b.home q 0 ≤ length b.row.slots.now
   home_in = let r = S'.reach q in let h = S'.room in omega arith
-
-  pub home_long : (get_or b.home q 0 ≡ 0 → ⊥) → length (slot_at b.row.slots.now (get_or b.home q 0)) ≡ 130
-  home_long z = let r = S'.reach q in S'.long (get_or b.home q 0 - 1) (omega arith)
 
   pub page_some : (v : List ℕ) → (get_or b.home q 0 ≡ 0 → ⊥) → v ≡ take 128 (drop 2 (slot_at b.row.slots.now (get_or b.home q 0))) → v ≡ page_in (take (b.pages + 1) b.row.slots.now) q
   page_some v z e =
