@@ -3,12 +3,12 @@ use Rattle.std.proofs.Common.{◌≡◌, ℕ, zero, suc, ◌+◌, ◌-◌, ◌<�
 use Rattle.std.specs.List.{range_with_len, AllByRecursion}
 use Rattle.std.proofs.lemmas.Bool.{eq-eqb, ne_eqb}
 use Rattle.std.proofs.lemmas.List.Elements.{filter-append}
-use Rattle.std.proofs.ByRecursion.{All-weaker, all_kept_by}
+use Rattle.std.proofs.ByRecursion.{All-weaker, All-take, all_kept_by}
 use Rattle.pages.specs.Skip.{among, good, Rises}
 use Rattle.pages.specs.Sizes.{rises_by}
 
 -- numbers from a on, in two runs
-counting_split : (a n k : ℕ) → range_with_len a (n + k) ≡ range_with_len a n ++ range_with_len (a + n) k
+pub counting_split : (a n k : ℕ) → range_with_len a (n + k) ≡ range_with_len a n ++ range_with_len (a + n) k
 counting_split a zero k = let e : 0 + k ≡ k = omega arith in let f : a + 0 ≡ a = omega arith in rw (e, f)
 counting_split a (suc n) k =
     let e : suc n + k ≡ suc (n + k) = omega arith in let f : a + suc n ≡ a + 1 + n = omega arith in rw (e, f, counting_split (a + 1) n k)
@@ -100,15 +100,10 @@ pub good_rises : (bad : List ℕ) (n m : ℕ) → Rises 0 (take m (good bad n))
 unfolding good
 good_rises bad n m = take_rises m 0 (good bad n) (kept_rises (λ k. not (among k bad)) 0 (range_with_len 1 n) (counting_rises 0 1 n (omega arith)))
 
-all_take' : (P : ℕ → Type 0) (m : ℕ) (ks : List ℕ) → AllByRecursion P ks → AllByRecursion P (take m ks)
-all_take' P zero ks a = tt
-all_take' P (suc m) [] a = tt
-all_take' P (suc m) (k ∷ ks) a = (a.0, all_take' P m ks a.1)
-
 pub good_within : (bad : List ℕ) (n m : ℕ) → AllByRecursion (λ k. k ≤ n) (take m (good bad n))
 unfolding good
 good_within bad n m =
-    all_take' (λ k. k ≤ n) m (good bad n) (all_kept_by (λ k. not (among k bad)) (λ k. k ≤ n) (range_with_len 1 n)
+    All-take (λ k. k ≤ n) m (good bad n) (all_kept_by (λ k. not (among k bad)) (λ k. k ≤ n) (range_with_len 1 n)
     (All-weaker (λ k. k < n + 1) (λ k. k ≤ n) (λ k l. omega arith) (range_with_len 1 n) (counting_below (n + 1) 1 n (omega arith))))
 
 -- by places: the later number is the greater

@@ -3,6 +3,7 @@ use Rattle.std.proofs.Common.{◌≡◌, ℕ, zero, suc, ◌+◌, ◌-◌, ◌<�
 use Rattle.std.specs.Prelude.{IsOk, OnOk, OnErr, ◌↔◌}
 use Rattle.std.specs.List.{range_with_len}
 use Rattle.std.proofs.lemmas.List.{length-take, length-append, take_all, take-append-le}
+use Rattle.pages.proofs.Goods.{counting_split}
 
 -- a table that was full before is full after
 pub room_again : (n : ℕ) (xs ys : List ℕ) → take n (take n xs ++ ys) ≡ take n (xs ++ ys)
@@ -23,10 +24,6 @@ pushed (Err _) xs ys zs k e v a b f =
     let n : length xs ≡ min 1024 (length zs) = ap length e ∙ length-take 1024 zs in
     b ∙ e ∙ sym (take-append-le 1024 zs (k ∷ []) (omega arith))
 
-counting_push : (a n k : ℕ) → k ≡ a + n → range_with_len a (n + 1) ≡ range_with_len a n ++ k ∷ []
-counting_push a zero k e = let f : k ≡ a = omega arith in rw f
-counting_push a (suc n) k e = let f : suc n + 1 ≡ suc (n + 1) = omega arith in rw f (ap (λ (ks : List ℕ). a ∷ ks) (counting_push (a + 1) n k (omega arith)))
-
 -- the filling of a table of the numbers xs: its start, and its turn from k to k + 1
 pub fill_start : (xs : List ℕ) (after : ℕ) → length xs ≤ 1024 → xs ≡ take 1024 (xs ++ range_with_len (after + 1) (after - after))
 fill_start xs after h = let z : after - after ≡ 0 = omega arith in rw (z, append-nil) (sym (take_all 1024 xs h))
@@ -36,6 +33,8 @@ pub fill_more : {E : Type 0} (r : Result (Unit {0}) E) (first xs ys : List ℕ) 
     → ys ≡ take 1024 (first ++ range_with_len (after + 1) (k + 1 - after))
 fill_more r first xs ys after k h e v a b f =
     let g : k + 1 - after ≡ k - after + 1 = omega arith in
+    let l : after + 1 + (k - after) ≡ k + 1 = omega arith in
     pushed r xs ys (first ++ range_with_len (after + 1) (k - after)) (k + 1) e v a b f
     ∙ ap (take 1024) (append_assoc first (range_with_len (after + 1) (k - after)) ((k + 1) ∷ []))
-    ∙ ap (λ (ks : List ℕ). take 1024 (first ++ ks)) (sym (ap (range_with_len (after + 1)) g ∙ counting_push (after + 1) (k - after) (k + 1) (omega arith)))
+    ∙ ap (λ (ks : List ℕ). take 1024 (first ++ ks))
+    (sym (ap (range_with_len (after + 1)) g ∙ counting_split (after + 1) (k - after) 1 ∙ ap (λ (j : ℕ). range_with_len (after + 1) (k - after) ++ j ∷ []) l))

@@ -1,5 +1,5 @@
 -- Lemmas on a layer that skips pages.
-use Rattle.std.proofs.Common.{◌≡◌, ℕ, ◌-◌, ◌<◌, ◌≤◌, Bool, true, false, cond, leb, ◌≢◌, ◌⊎◌, List, [], map, length, get_or, set, Ok, Err, Result, sym, refl, ap, ◌∙◌, subst, inl, inr, arith}
+use Rattle.std.proofs.Common.{◌≡◌, ℕ, ◌-◌, ◌<◌, ◌≤◌, Bool, true, false, cond, leb, ◌≢◌, List, [], map, length, get_or, set, Ok, Err, Result, sym, refl, ap, ◌∙◌, subst, inl, inr, arith}
 use Rattle.std.proofs.lemmas.Bool.{leb-true, cases_eq, cases_lt}
 use Rattle.std.proofs.ByRecursion.{All-get_or}
 use Rattle.std.proofs.lemmas.List.{length-map, length-set, get_or-map, get_or-set_same, get_or-set_other, ext_get_or}
@@ -8,7 +8,7 @@ use Rattle.pages.specs.declared.fault.StoreFault.TheVariants.{Absent, Uncharged}
 use Rattle.pages.specs.declared.table.SkipTable.{SkipTable}
 use Rattle.pages.specs.Image.{Image, Has, Lacks, Reads, Writes, at, written}
 use Rattle.pages.specs.Sizes.{rises_by}
-use Rattle.pages.specs.Table.{places_in, seen, counted, Finds, WritesBelow}
+use Rattle.pages.specs.Table.{places_in, seen, counted, Finds}
 use Rattle.pages.proofs.Goods.{rises_apart}
 
 abbrev pictured : ℕ → List (List ℕ) → Image
@@ -23,18 +23,6 @@ module _ (t : SkipTable) (m : Image) where
     -- the number of the layer's pages
     pub count_is : counted t n ≡ length (seen t m).pages
     count_is = ap (counted t) en ∙ sym (by_test (leb t.reach (length m.pages)))
-
-    -- a page that is not there
-    lacks : (p : ℕ) → (p ≡ 0) ⊎ (counted t n < p) → Lacks (seen t m) p
-    lacks p o = elim o [ inl z ↦ inl z | inr h ↦ inr (rw (← count_is) h) ]
-
-    pub read_none : (p : ℕ) (old : List ℕ) (f : StoreFault) → Finds t n p (Err f) → Reads (seen t m) p old (Err f) (seen t m) old
-    read_none p old Absent o = (lacks p o, refl, refl)
-    read_none p old Uncharged o = absurd o
-
-    pub write_none : (p : ℕ) (bytes : List ℕ) (f : StoreFault) → Finds t n p (Err f) → Writes (seen t m) p bytes (Err f) (seen t m)
-    write_none p bytes Absent o = (lacks p o, refl)
-    write_none p bytes Uncharged o = absurd o
 
     module _ (p k : ℕ) (f : Finds t n p (Ok k)) where
       reached : (b : Bool) → p ≤ cond b (length (places_in t)) 0 → (b ≡ true) × (p ≤ length (places_in t))
@@ -71,14 +59,10 @@ module _ (t : SkipTable) (m : Image) where
       not_lacking : Lacks m k → ⊥
       not_lacking o = let h = has_below in elim o [ inl z ↦ omega arith | inr g ↦ omega arith ]
 
-      pub record SkipRead (old new : List ℕ) (r : Result (Unit {0}) StoreFault) (m' : Image) : Type 0 where
-        pub read : Reads (seen t m) p old r (seen t m') new
-        pub below : m'.pages ≡ m.pages
-
-      pub reads : (m' : Image) (old new : List ℕ) (r : Result (Unit {0}) StoreFault) → Reads m k old r m' new → SkipRead old new r m'
-      reads m' old new (Ok u) h = record { read = (has, h.1, h.2 ∙ sym at_place, ap (seen t) h.3); below = ap (λ (i : Image). i.pages) h.3 }
+      pub reads : (m' : Image) (old new : List ℕ) (r : Result (Unit {0}) StoreFault) → Reads m k old r m' new → Reads (seen t m) p old r (seen t m') new
+      reads m' old new (Ok u) h = (has, h.1, h.2 ∙ sym at_place, ap (seen t) h.3)
       reads m' old new (Err Absent) h = absurd (not_lacking h.0)
-      reads m' old new (Err Uncharged) h = record { read = (has, h.1, h.2, ap (seen t) h.3); below = ap (λ (i : Image). i.pages) h.3 }
+      reads m' old new (Err Uncharged) h = (has, h.1, h.2, ap (seen t) h.3)
 
       -- the page at place k replaced is the layer's page p replaced
       module _ (bytes : List ℕ) where
@@ -116,11 +100,7 @@ module _ (t : SkipTable) (m : Image) where
             ap (pictured (m.charge - 1))
             (ap (λ (b : Bool). cond b (map (at (written m k bytes)) (places_in t)) []) still ∙ replaced ∙ ap (λ (ps : List (List ℕ)). set ps (p - 1) bytes) (sym pages_are))
 
-        pub record SkipWrite (r : Result (Unit {0}) StoreFault) (m' : Image) : Type 0 where
-          pub write : Writes (seen t m) p bytes r (seen t m')
-          pub below : WritesBelow t m p bytes r m'
-
-        pub writes : (m' : Image) (r : Result (Unit {0}) StoreFault) → Writes m k bytes r m' → SkipWrite r m'
-        writes m' (Ok u) h = record { write = (has, h.1, ap (seen t) h.2 ∙ seen_written); below = h.2 ∙ ap (λ (q : ℕ). written m q bytes) (sym place_is) }
+        pub writes : (m' : Image) (r : Result (Unit {0}) StoreFault) → Writes m k bytes r m' → Writes (seen t m) p bytes r (seen t m')
+        writes m' (Ok u) h = (has, h.1, ap (seen t) h.2 ∙ seen_written)
         writes m' (Err Absent) h = absurd (not_lacking h.0)
-        writes m' (Err Uncharged) h = record { write = (has, h.1, ap (seen t) h.2); below = h.2 }
+        writes m' (Err Uncharged) h = (has, h.1, ap (seen t) h.2)

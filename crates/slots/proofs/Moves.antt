@@ -1,6 +1,7 @@
 -- What a slot store keeps of its slots and tables, and how a write moves it.
 use Rattle.std.proofs.Common.{◌≡◌, ℕ, zero, suc, ◌+◌, ◌-◌, ◌^◌, ◌<◌, ◌≤◌, true, false, cond, eqb, ◌≢◌, List, [], ◌∷◌, length, get_or, take, drop, set, replicate, sym, refl, ap, ◌∙◌, subst, inl, inr, mod-eq_of_lt, arith, get_or-set_other, get_or-set_same}
 use Rattle.std.specs.List.{AllByRecursion}
+use Rattle.std.proofs.ByRecursion.{All-weaker}
 use Rattle.std.proofs.lemmas.Nat.{mod-pow-add}
 use Rattle.std.proofs.lemmas.Bool.{cases_eq, eq-eqb, ne_eqb}
 use Rattle.std.proofs.lemmas.List.{length-set, length-take, get_or-take, length-drop}
@@ -89,10 +90,6 @@ all_other : (P Q : ℕ → Type 0) (k : ℕ) (xs : List ℕ) → ((x : ℕ) → 
 all_other P Q k [] f a h = tt
 all_other P Q k (x ∷ xs) f a h = (f x a.0 h.0, all_other P Q k xs f a.1 h.1)
 
-all_same : (P Q : ℕ → Type 0) (xs : List ℕ) → ((x : ℕ) → P x → Q x) → AllByRecursion P xs → AllByRecursion Q xs
-all_same P Q [] f h = tt
-all_same P Q (x ∷ xs) f h = (f x h.0, all_same P Q xs f h.1)
-
 -- the page p leaves its slot
 module _ (slots : List (List ℕ)) (home free : List ℕ) (n p old : ℕ) (S : Sound slots home free n) (p1 : 1 ≤ p) (pn : p ≤ n) (is : get_or home p 0 ≡ old) (o1 : old ≡ 0 → ⊥) (y : List ℕ) (ye : y ≡ freed (slot_at slots old)) where
   on : old - 1 ≤ n
@@ -161,8 +158,8 @@ module _ (slots : List (List ℕ)) (home free : List ℕ) (n p old : ℕ) (S : S
     listed = λ i h z a. elim (cases_eq i (old - 1)) [ inl e ↦ a.0 (omega arith) | inr d ↦ S.listed i h (sym (ap number (other_y i d)) ∙ z) a.1 ];
     vacant = (
       ap number same_y ∙ y_number,
-      all_same (λ s. number (slot_at slots s) ≡ 0) (λ s. number (slot_at (set slots (old - 1) y) s) ≡ 0) free
-          (λ s v. elim (cases_eq (s - 1) (old - 1)) [ inl e ↦ ap (λ (j : ℕ). number (get_or (set slots (old - 1) y) j [])) e ∙ ap number same_y ∙ y_number | inr d ↦ ap number (other_y (s - 1) d) ∙ v ]) S.vacant,
+      All-weaker (λ s. number (slot_at slots s) ≡ 0) (λ s. number (slot_at (set slots (old - 1) y) s) ≡ 0)
+          (λ s v. elim (cases_eq (s - 1) (old - 1)) [ inl e ↦ ap (λ (j : ℕ). number (get_or (set slots (old - 1) y) j [])) e ∙ ap number same_y ∙ y_number | inr d ↦ ap number (other_y (s - 1) d) ∙ v ]) free S.vacant,
     );
     bound = (let r = S.reach p in omega arith, S.bound);
   }

@@ -1,8 +1,8 @@
 -- A slot store by what it keeps: its making and its write.
-use Rattle.std.proofs.Common.{◌≡◌, ℕ, zero, suc, ◌+◌, ◌-◌, ◌<◌, ◌≤◌, min, max, Bool, true, false, cond, not, eqb, ◌≢◌, List, [], ◌∷◌, length, get_or, take, drop, set, replicate, Some, Ok, filter, sym, refl, ap, ◌∙◌, subst, inl, inr, arith}
+use Rattle.std.proofs.Common.{◌≡◌, ℕ, zero, suc, ◌+◌, ◌-◌, ◌<◌, ◌≤◌, min, max, Bool, true, false, cond, not, eqb, ◌≢◌, List, [], ◌∷◌, length, get_or, take, drop, set, replicate, Some, Ok, filter, Result, sym, refl, ap, ◌∙◌, subst, inl, inr, arith}
 use Rattle.std.proofs.lemmas.List.{length-drop, take_all, length-set, get_or-set_other}
 use Rattle.std.specs.List.{range_with_len, AllByRecursion}
-use Rattle.std.proofs.ByRecursion.{All-get_or, All-from_get_or, all_kept_by, kept_by_passes}
+use Rattle.std.proofs.ByRecursion.{All-get_or, All-from_get_or, All-weaker, all_kept_by, kept_by_passes}
 use Rattle.std.proofs.lemmas.Bool.{cases_eq, eq-eqb, ne_eqb, eqb-true}
 use Rattle.records.specs.Chain.{Absent, Within, unmarked, Takes, Puts}
 use Rattle.records.specs.Free.{numbers}
@@ -156,10 +156,6 @@ makes_no slots n free f e = record { yes = λ a. absurd (f a); no = λ _. (refl,
 pub never_none : (b : SlotStore) → 0 < b.pages → numbers b.free ≡ [] → ⊥
 never_none b z e = never_full b.row.slots.now b.home b.pages (subst (λ (xs : List ℕ). Sound b.row.slots.now b.home xs b.pages) e (sound b z))
 
-all_absent : (P : ℕ → Type 0) (k : ℕ) (xs : List ℕ) → (P k → ⊥) → AllByRecursion P xs → Absent k xs
-all_absent P k [] f h = tt
-all_absent P k (x ∷ xs) f h = (λ e. f (subst P e h.0), all_absent P k xs f h.1)
-
 module _ (b : SlotStore) (s p : ℕ) (bytes ys : List ℕ) (t : Takes (numbers b.free) (Some s) ys) (p1 : 1 ≤ p) (pn : p ≤ b.pages) where
   is : numbers b.free ≡ s ∷ ys
   is = t.3
@@ -181,7 +177,11 @@ module _ (b : SlotStore) (s p : ℕ) (bytes ys : List ℕ) (t : Takes (numbers b
       let e : get_or (numbers b.free) 0 0 ≡ s = ap (λ (xs : List ℕ). get_or xs 0 0) is in
       (rw e W.slots_are, W.free_are, W.past_are)
 
-  module _ (lb : length bytes ≡ 128) (slots₁ : List (List ℕ)) (e₁ : slots₁ ≡ set b.row.slots.now (s - 1) (filled p bytes)) where
+  -- x put into the front free slot
+  module _ (lb : length bytes ≡ 128) (x : List ℕ) (xe : x ≡ filled p bytes) (slots₁ : List (List ℕ)) (put : slots₁ ≡ set b.row.slots.now (s - 1) x) where
+    e₁ : slots₁ ≡ set b.row.slots.now (s - 1) (filled p bytes)
+    e₁ = put ∙ ap (set b.row.slots.now (s - 1)) xe
+
     -- the page was in no slot
     pub first_time : get_or b.home p 0 ≡ 0 → Written slots₁ ys
     first_time none =
@@ -198,7 +198,8 @@ module _ (b : SlotStore) (s p : ℕ) (bytes ys : List ℕ) (t : Takes (numbers b
       held_p = subst (λ (k : ℕ). number (slot_at b.row.slots.now k) ≡ p) at (S.homed p p1 (λ q. o1 (sym at ∙ q)))
 
       absent_old : Absent old ys
-      absent_old = all_absent (λ k. number (slot_at b.row.slots.now k) ≡ 0) old ys (λ z. (let h = held_p in omega arith)) S.vacant.1
+      absent_old = All-weaker (λ k. number (slot_at b.row.slots.now k) ≡ 0) (λ k. k ≢ old)
+          (λ k z e. let v : number (slot_at b.row.slots.now old) ≡ 0 = subst (λ (j : ℕ). number (slot_at b.row.slots.now j) ≡ 0) e z in let h = held_p in omega arith) ys S.vacant.1
 
       differ : old - 1 ≢ s - 1
       differ e =
@@ -208,8 +209,11 @@ module _ (b : SlotStore) (s p : ℕ) (bytes ys : List ℕ) (t : Takes (numbers b
       same_old : slot_at slots₁ old ≡ slot_at b.row.slots.now old
       same_old = ap (λ (z : List (List ℕ)). slot_at z old) e₁ ∙ get_or-set_other b.row.slots.now (s - 1) (old - 1) (filled p bytes) [] differ
 
-      pub again : (slots₂ : List (List ℕ)) (zs : List ℕ) (u : Bool) → slots₂ ≡ set slots₁ (old - 1) (freed (slot_at slots₁ old)) → Puts old ys u zs → Written slots₂ zs
-      again slots₂ zs u e₂ k =
+      -- y put into it, made free
+      pub again : (o y : List ℕ) → o ≡ slot_at slots₁ old → y ≡ freed o → (slots₂ : List (List ℕ)) (zs : List ℕ) (u : Result (Unit {0}) ℕ) → slots₂ ≡ set slots₁ (old - 1) y
+          → Puts old ys u zs → Written slots₂ zs
+      again o y oe ye slots₂ zs u put₂ k =
+          let e₂ : slots₂ ≡ set slots₁ (old - 1) (freed (slot_at slots₁ old)) = put₂ ∙ ap (set slots₁ (old - 1)) (ye ∙ ap freed oe) in
           let f : zs ≡ old ∷ ys = put_sure old ys zs u (omega arith) (let h = S.reach p in let g = S.few in omega arith) absent_old k in
           let e : slots₂ ≡ set (set b.row.slots.now (s - 1) (filled p bytes)) (old - 1) (freed (slot_at b.row.slots.now old)) =
           e₂ ∙ ap (λ (y : List ℕ). set slots₁ (old - 1) (freed y)) same_old ∙ ap (λ (z : List (List ℕ)). set z (old - 1) (freed (slot_at b.row.slots.now old))) e₁ in
@@ -231,9 +235,6 @@ module _ (b : SlotStore) (q : ℕ) (q1 : 1 ≤ q) (qn : q ≤ b.pages) where
 
   pub home_in : get_or b.home q 0 ≤ length b.row.slots.now
   home_in = let r = S'.reach q in let h = S'.room in omega arith
-
-  pub home_long : (get_or b.home q 0 ≡ 0 → ⊥) → length (slot_at b.row.slots.now (get_or b.home q 0)) ≡ 130
-  home_long z = let r = S'.reach q in S'.long (get_or b.home q 0 - 1) (omega arith)
 
   pub page_some : (v : List ℕ) → (get_or b.home q 0 ≡ 0 → ⊥) → v ≡ take 128 (drop 2 (slot_at b.row.slots.now (get_or b.home q 0))) → v ≡ page_in (take (b.pages + 1) b.row.slots.now) q
   page_some v z e =

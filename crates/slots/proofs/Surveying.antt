@@ -1,7 +1,7 @@
 -- The loop that goes through the slots.
-use Rattle.std.proofs.Common.{◌≡◌, ℕ, zero, suc, ◌+◌, ◌-◌, ◌<◌, ◌≤◌, Bool, true, false, not, eqb, ◌≢◌, List, [], length, get_or, set, replicate, sym, refl, ap, ◌∙◌, inl, inr, arith}
+use Rattle.std.proofs.Common.{◌≡◌, ℕ, zero, suc, ◌+◌, ◌-◌, ◌<◌, ◌≤◌, Bool, true, false, not, eqb, ◌≢◌, List, [], length, get_or, take, set, replicate, sym, refl, ap, ◌∙◌, inl, inr, arith}
 use Rattle.std.proofs.lemmas.Bool.{cases_eq, eq-eqb, ne_eqb}
-use Rattle.std.proofs.lemmas.List.{length-set, get_or-set_same, get_or-set_other}
+use Rattle.std.proofs.lemmas.List.{length-set, length-take, get_or-take, get_or-set_same, get_or-set_other}
 use Rattle.slots.specs.Slot.{number, slot_at, Allowed}
 use Rattle.slots.specs.Survey.{Tables}
 
@@ -39,13 +39,26 @@ seen_none slots n home used lh lu h u = record {
   unmarked = λ s l. u s;
 }
 
-module _ (slots : List (List ℕ)) (n i k : ℕ) (home : List ℕ) (used : List Bool) (g : Seen slots n i home used) (is : k ≡ number (get_or slots i [])) (li : length (get_or slots i []) ≡ 130) where
-  -- a number above n, or one that stood before
-  pub too_high : i ≤ n → n < k → Allowed slots n → ⊥
-  too_high h z a = let l = a.low i h in omega arith
+module _ (slots : List (List ℕ)) (n i k : ℕ) (home : List ℕ) (used : List Bool) (g : Seen slots n i home used) (lt : i < length (take (n + 1) slots))
+    (at : k ≡ number (get_or (take (n + 1) slots) i [])) (wide : length (get_or (take (n + 1) slots) i []) ≡ 130) where
+  h : i ≤ n
+  h = omega (arith, length-take (n + 1) slots)
 
-  pub twice : i ≤ n → (get_or home k 0 ≡ 0 → ⊥) → Allowed slots n → ⊥
-  twice h z a =
+  here : get_or (take (n + 1) slots) i [] ≡ get_or slots i []
+  here = get_or-take (n + 1) slots i [] (omega (arith, h))
+
+  is : k ≡ number (get_or slots i [])
+  is = at ∙ ap number here
+
+  li : length (get_or slots i []) ≡ 130
+  li = sym (ap length here) ∙ wide
+
+  -- a number above n, or one that stood before
+  pub too_high : n < k → Allowed slots n → ⊥
+  too_high z a = let l = a.low i h in omega (arith, is)
+
+  pub twice : (get_or home k 0 ≡ 0 → ⊥) → Allowed slots n → ⊥
+  twice z a =
       let r = g.reach k in
       let e = g.homed k z in
       let o = a.once (get_or home k 0 - 1) i (omega arith) h (e ∙ is) in
@@ -74,9 +87,9 @@ module _ (slots : List (List ℕ)) (n i k : ℕ) (home : List ℕ) (used : List 
   })
 
   -- a slot that holds a page
-  pub seen_used : (home' : List ℕ) (used' : List Bool) → i ≤ n → n ≤ 1024 → k ≤ n → (k ≡ 0 → ⊥) → get_or home k 0 ≡ 0 → home' ≡ set home k (i + 1) → used' ≡ set used (i + 1) true
+  pub seen_used : (home' : List ℕ) (used' : List Bool) → n ≤ 1024 → k ≤ n → (k ≡ 0 → ⊥) → get_or home k 0 ≡ 0 → home' ≡ set home k (i + 1) → used' ≡ set used (i + 1) true
       → Seen slots n (i + 1) home' used'
-  seen_used home' used' h few kn k1 z eh eu =
+  seen_used home' used' few kn k1 z eh eu =
       let same : get_or (set home k (i + 1)) k 0 ≡ i + 1 = get_or-set_same home k (i + 1) 0 (omega (arith, g.homes)) in
       let other : (q : ℕ) → q ≢ k → get_or (set home k (i + 1)) q 0 ≡ get_or home q 0 = λ q d. get_or-set_other home k q (i + 1) 0 d in
       rw (eh, eu) (record {
@@ -98,7 +111,7 @@ module _ (slots : List (List ℕ)) (n i k : ℕ) (home : List ℕ) (used : List 
         origin = other 0 (λ e. k1 (sym e)) ∙ g.origin;
         marked = λ s a b. elim (cases_eq s (i + 1)) [
           | inl e ↦ (let t : eqb (number (get_or slots i [])) 0 ≡ false = ne_eqb (number (get_or slots i [])) 0 (λ o. k1 (is ∙ o)) in
-              rw (e, up, t) (get_or-set_same used (i + 1) true false (omega (arith, g.marks))))
+              rw (e, up, t) (get_or-set_same used (i + 1) true false (omega (arith, g.marks, h))))
           | inr d ↦ get_or-set_other used (i + 1) s true false d ∙ g.marked s a (omega arith)
         ];
         unmarked = λ s l. get_or-set_other used (i + 1) s true false (λ e. omega arith) ∙ g.unmarked s (omega arith);

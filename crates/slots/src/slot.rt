@@ -13,20 +13,16 @@ pub(crate) fn number_of(slot: &[u8; 130]) -> u16
 pub(crate) fn slot_of(page: u16, from: &[u8; 128]) -> [u8; 130]
     ensures { result ≡ filled page from.now }
 {
-    let own = page.to_le_bytes();
     let mut slot = [0; 130];
-    slot[0] = own[0];
-    slot[1] = own[1];
-    slot[2..130].copy_from_slice(from);
+    slot[..2].copy_from_slice(&page.to_le_bytes());
+    slot[2..].copy_from_slice(from);
     slot
 }
 
 // A slot made free: it keeps its page, only its number becomes 0.
-pub(crate) fn vacated(slot: &[u8; 130]) -> [u8; 130]
-    ensures { result ≡ freed slot.now }
+pub(crate) fn vacated(mut slot: [u8; 130]) -> [u8; 130]
+    ensures { result ≡ freed slot }
 {
-    let mut free = *slot;
-    free[0] = 0;
-    free[1] = 0;
-    free
+    slot[..2].copy_from_slice(&[0, 0]);
+    slot
 }

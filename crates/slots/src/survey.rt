@@ -22,8 +22,8 @@ pub(crate) fn surveyed(slots: &[[u8; 130]], pages: u16) -> Option<Survey>
     }
     let mut home = [0; 1025];
     let mut used = [false; 1026];
-    for i in 0..pages as usize + 1 {
-        let k = number_of(&slots[i]);
+    for (i, slot) in slots[..=pages as usize].iter().enumerate() {
+        let k = number_of(slot);
         if k > pages || home[k as usize] != 0 {
             return None;
         }

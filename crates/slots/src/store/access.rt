@@ -5,6 +5,7 @@ ghost use Rattle.records.specs.Free.{numbers};
 ghost use Rattle.slots.specs.Slot.{held, page_in, Stores};
 ghost use Rattle.slots.specs.Sizes.{held_sized};
 
+use crate::slot::{slot_of, vacated};
 use crate::store::SlotStore;
 use pages::fault::StoreFault;
 use pages::store::PageStore;
@@ -20,7 +21,8 @@ impl SlotStore<'_> {
         if s == 0 {
             *into = [0; 128];
         } else {
-            self.row.copy_out(s, into);
+            let slot = self.row.slot(s);
+            into.copy_from_slice(&slot[2..]);
         }
     }
 
@@ -35,15 +37,15 @@ impl SlotStore<'_> {
         ensures charge { self.new.charge.left ≡ self.old.charge.left }
         ensures lent { self.new.row.slots.ghost_name ≡ self.old.row.slots.ghost_name }
     {
-        let s = match self.free.take_front() {
-            Some(s) => s,
-            None => unreachable(),
+        let Some(s) = self.free.take_front() else {
+            unreachable!()
         };
-        self.row.fill(s, page, from);
+        self.row.put(s, slot_of(page, from));
         let old = self.home[page as usize];
         self.home[page as usize] = s;
         if old != 0 {
-            self.row.clear(old);
+            let free = vacated(self.row.slot(old));
+            self.row.put(old, free);
             let _ = self.free.put_front(old);
         }
     }

@@ -15,10 +15,7 @@ use records::free::FreeList;
 pub fn slots_allowed(slots: &[[u8; 130]], pages: u16) -> Result<(), MakingFault>
     ensures { Answers slots.now pages result }
 {
-    match surveyed(slots, pages) {
-        Some(_) => Ok(()),
-        None => Err(MakingFault::Slots),
-    }
+    surveyed(slots, pages).map(|_| ()).ok_or(MakingFault::Slots)
 }
 
 impl<'a> SlotStore<'a> {

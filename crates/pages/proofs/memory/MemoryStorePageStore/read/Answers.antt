@@ -1,12 +1,11 @@
-use Rattle.std.proofs.Common.{refl}
 use Rattle.std.proofs.lemmas.Result.{err_from_is_err_and}
 use Rattle.pages.proofs.Cuts.{reads_yes, reads_no}
 use Rattle.pages.proofs.memory.MemoryStorePageStore.read.Goals as goal
 
-pub returns-in_err-access : goal.returns-in_err-access
-returns-in_err-access c =
+pub returns-in_err-access-clause-read : goal.returns-in_err-access-clause-read
+returns-in_err-access-clause-read c =
     let p = err_from_is_err_and c.from_residual.result c.from_residual.ensures.1 in
-    rw (p.1, p.2) (record { read = reads_no _ _ _ _ c.number_in-size.ensures _ _ _ c.in_err-access.ensures; bytes = refl; lent = refl })
+    rw (p.1, p.2) (reads_no _ _ _ _ c.number_in-size.ensures _ _ _ c.in_err-access.ensures)
 
-pub returns : goal.returns
-returns c = record { read = reads_yes _ _ _ _ c.number_in-size.ensures _ c.args.into.now _ c.in_ok-access.ensures c.copy_out.ensures; bytes = refl; lent = refl }
+pub returns-clause-read : goal.returns-clause-read
+returns-clause-read c = reads_yes _ _ _ _ c.number_in-size.ensures _ c.args.into.now _ c.in_ok-access.ensures c.copy_out.ensures

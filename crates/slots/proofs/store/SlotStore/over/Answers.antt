@@ -11,12 +11,7 @@ invariant_of-result-2 c =
     let a = c.in-Some.ensures in
     ghosts _ _ _ _ (made c.args.slots.now c.args.pages c.in-Some.survey.home c.in-Some.survey.used _ a.0 a.1 c.rising-free.ensures)
 
-pub returns : goal.returns
-returns c =
+pub returns-clause-made : goal.returns-clause-made
+returns-clause-made c =
     let a = c.in-Some.ensures in
-    record {
-      made = makes_yes c.args.slots.now c.args.pages c.in-Some.survey.home c.in-Some.survey.used _ a.0 a.1 c.rising-free.ensures;
-      slots = refl;
-      lent = refl;
-      uncharged = c.none-2.ensures;
-    }
+    makes_yes c.args.slots.now c.args.pages c.in-Some.survey.home c.in-Some.survey.used _ a.0 a.1 c.rising-free.ensures
