@@ -1,7 +1,7 @@
 // Reading and writing a page, with a refusal that says which page of which level.
 ghost use Rattle.faults.specs.Accesses.{Fetches, Stores};
 
-use crate::fault::{Access, ReadRefused, WriteRefused};
+use crate::fault::{Access, Fault};
 use pages::store::PageStore;
 
 pub fn fetch<S: PageStore>(
@@ -9,29 +9,18 @@ pub fn fetch<S: PageStore>(
     page: u16,
     level: u8,
     into: &mut [u8; 128],
-) -> Result<(), ReadRefused>
+) -> Result<(), Fault>
     ensures { Fetches (S.meaning store.old) page level into.old result (S.meaning store.new) into.new }
 {
-    match store.read(page, into) {
-        Ok(()) => Ok(()),
-        Err(fault) => Err(ReadRefused {
-            access: Access { page, level, fault },
-        }),
-    }
+    store
+        .read(page, into)
+        .map_err(|fault| Fault::of_read(Access { page, level, fault }))
 }
 
-pub fn put<S: PageStore>(
-    store: &mut S,
-    page: u16,
-    level: u8,
-    from: &[u8; 128],
-) -> Result<(), WriteRefused>
+pub fn put<S: PageStore>(store: &mut S, page: u16, level: u8, from: &[u8; 128]) -> Result<(), Fault>
     ensures { Stores (S.meaning store.old) page level from.now result (S.meaning store.new) }
 {
-    match store.write(page, from) {
-        Ok(()) => Ok(()),
-        Err(fault) => Err(WriteRefused {
-            access: Access { page, level, fault },
-        }),
-    }
+    store
+        .write(page, from)
+        .map_err(|fault| Fault::of_write(Access { page, level, fault }))
 }
