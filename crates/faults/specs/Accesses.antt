@@ -12,13 +12,14 @@ use Rattle.faults.specs.Refusals.{unread, unwritten}
 abbrev pub contents : Image → Contents
 contents m = λ p. content_of (slice_index_or m.pages (p - 1) [])
 
+-- a refusal is told as a fault, with the page and its level
 abbrev pub access : ℕ → ℕ → StoreFault → Access
-access page level fault = record { page = page; level = level; fault = fault }
+access p level fault = record { page = p; level = level; fault = fault }
 
 abbrev pub Fetches : Image → ℕ → ℕ → List ℕ → Result (Unit {0}) Fault → Image → List ℕ → Type 0
-Fetches m page level old (Ok u) m' new = Reads m page old (Ok u) m' new
-Fetches m page level old (Err f) m' new = (e : StoreFault) × (f ≡ unread (access page level e)) × Reads m page old (Err e) m' new
+Fetches m p level old (Ok u) m' new = Reads m p old (Ok u) m' new
+Fetches m p level old (Err f) m' new = (fault : StoreFault) × (f ≡ unread (access p level fault)) × Reads m p old (Err fault) m' new
 
 abbrev pub Stores : Image → ℕ → ℕ → List ℕ → Result (Unit {0}) Fault → Image → Type 0
-Stores m page level from (Ok u) m' = Writes m page from (Ok u) m'
-Stores m page level from (Err f) m' = (e : StoreFault) × (f ≡ unwritten (access page level e)) × Writes m page from (Err e) m'
+Stores m p level from (Ok u) m' = Writes m p from (Ok u) m'
+Stores m p level from (Err f) m' = (fault : StoreFault) × (f ≡ unwritten (access p level fault)) × Writes m p from (Err fault) m'

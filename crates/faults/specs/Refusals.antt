@@ -3,7 +3,7 @@ use Rattle.std.specs.Prelude.{ℕ, List, [], ◌∷◌}
 use Rattle.pages.specs.declared.fault.StoreFault.{StoreFault}
 use Rattle.pages.specs.declared.fault.StoreFault.TheVariants.{Absent as is_absent, Uncharged as is_uncharged}
 use Rattle.layout.specs.declared.visit.Rule.{Rule}
-use Rattle.layout.specs.declared.visit.Rule.TheVariants.{A, B, C, D, E, F}
+pub use Rattle.layout.specs.Rules.{letter}
 use Rattle.faults.specs.declared.fault.Access.{Access}
 use Rattle.faults.specs.declared.fault.Fault.{Fault}
 use Rattle.faults.specs.declared.fault.Fault.TheVariants.{Shut, Outside, Work, Absent, Unread, NoHeader, OtherOrder, Unsound, NoEvent, CountFull, HeightFull, Room, Unwritten}
@@ -23,18 +23,10 @@ number_of HeightFull = 15
 number_of Room = 16
 number_of (Unwritten a) = 17
 
--- a store's fault and a rule as numbers: 1 absent, 2 uncharged; A is 1, F is 6
+-- a store's fault as a number: 1 absent, 2 uncharged; a rule's is its letter's, from 1 to 6
 abbrev pub fault_number : StoreFault → ℕ
 fault_number is_absent = 1
 fault_number is_uncharged = 2
-
-abbrev pub letter : Rule → ℕ
-letter A = 1
-letter B = 2
-letter C = 3
-letter D = 4
-letter E = 5
-letter F = 6
 
 -- page, level and the store's own fault
 abbrev pub access_values : Access → List ℕ

@@ -12,7 +12,7 @@ pub fn fetch<S: PageStore>(store: &mut S, at: PageRef, into: &mut [u8; 128]) -> 
     let PageRef { page, level } = at;
     store
         .read(page, into)
-        .map_err(|fault| Fault::unread(Access { page, level, fault }))
+        .map_err(|fault| Fault::of_read(Access { page, level, fault }))
 }
 
 // Replaces the whole of the page.
@@ -22,5 +22,5 @@ pub fn put<S: PageStore>(store: &mut S, at: PageRef, from: &[u8; 128]) -> Result
     let PageRef { page, level } = at;
     store
         .write(page, from)
-        .map_err(|fault| Fault::unwritten(Access { page, level, fault }))
+        .map_err(|fault| Fault::of_write(Access { page, level, fault }))
 }

@@ -2,18 +2,19 @@
 ghost use Rattle.std.specs.Prelude.{◌≡◌};
 ghost use Rattle.faults.specs.Refusals.{number_of, unread, unwritten};
 
-use pages::fault::StoreFault;
 use layout::visit::Rule;
+use pages::fault::StoreFault;
+use std::fmt;
 
 // The store's own fault, whole, with the page that was asked for and its level, 0 for the header.
-#[derive(Clone, Copy)]
+#[derive(Clone, Copy, PartialEq, Eq, Debug)]
 pub struct Access {
     pub page: u16,
     pub level: u8,
     pub fault: StoreFault,
 }
 
-#[derive(Clone, Copy)]
+#[derive(Clone, Copy, PartialEq, Eq, Debug)]
 pub enum Fault {
     // 5: the index is shut
     Shut,
@@ -44,6 +45,26 @@ pub enum Fault {
 }
 
 impl Fault {
+    // A read that the store refused.
+    pub fn of_read(access: Access) -> Fault
+        ensures { result ≡ unread access }
+    {
+        match access.fault {
+            StoreFault::Absent => Fault::Absent(access),
+            StoreFault::Uncharged => Fault::Unread(access),
+        }
+    }
+
+    // A write that the store refused.
+    pub fn of_write(access: Access) -> Fault
+        ensures { result ≡ unwritten access }
+    {
+        match access.fault {
+            StoreFault::Absent => Fault::Absent(access),
+            StoreFault::Uncharged => Fault::Unwritten(access),
+        }
+    }
+
     pub fn number(self) -> u8
         ensures { result ≡ number_of self }
     {
@@ -63,24 +84,37 @@ impl Fault {
             Fault::Unwritten(_) => 17,
         }
     }
+}
 
-    // What a read is refused as: 8 where the page does not exist, 9 where the charge does not carry it.
-    pub fn unread(access: Access) -> Fault
-        ensures { result ≡ unread access }
-    {
-        match access.fault {
-            StoreFault::Absent => Fault::Absent(access),
-            StoreFault::Uncharged => Fault::Unread(access),
-        }
+// Why, in plain words.
+impl fmt::Display for Fault {
+    fn fmt<W: fmt::Write>(&self, f: &mut fmt::Formatter<W>) -> fmt::Result {
+        f.write_str(match self {
+            Fault::Shut => "the index is shut",
+            Fault::Outside => "the point lies outside the space",
+            Fault::Work => "an opening needs 64 work records",
+            Fault::Absent(_) => "the store has no such page",
+            Fault::Unread(_) => "the charge does not carry the read",
+            Fault::NoHeader => "page 1 is no header",
+            Fault::OtherOrder => "the header is of another order",
+            Fault::Unsound(_, rule) => broken(*rule),
+            Fault::NoEvent => "the point has no event",
+            Fault::CountFull => "the count is at its greatest",
+            Fault::HeightFull => "the tree would rise above 6 levels",
+            Fault::Room => "too few free pages",
+            Fault::Unwritten(_) => "the charge does not carry the write",
+        })
     }
+}
 
-    // The same of a write: 8 or 17.
-    pub fn unwritten(access: Access) -> Fault
-        ensures { result ≡ unwritten access }
-    {
-        match access.fault {
-            StoreFault::Absent => Fault::Absent(access),
-            StoreFault::Uncharged => Fault::Unwritten(access),
-        }
+// How a rule is broken.
+fn broken(rule: Rule) -> &'static str {
+    match rule {
+        Rule::A => "a page number is no usable page, or is reached twice",
+        Rule::B => "a page does not say its own number or level",
+        Rule::C => "a page has not 1 to 10 entries, or bytes that should be zero are not",
+        Rule::D => "a leaf's keys do not rise inside its region, or a count is 0",
+        Rule::E => "an inner page's keys do not rise inside its region, or the last is not 0",
+        Rule::F => "the counts do not sum to the total, or fewer than 6 pages are free",
     }
 }

@@ -61,5 +61,5 @@ round_trip level number es k l f =
     let p : page_bytes (level_of bs) (number_of bs) (entries_of bs) ≡ bs = λ i. page_bytes level (n i) (e i) in
     content_is level number es (content_of bs) refl n ((clean_decides bs).1 (sym p)) e
 
-pub holds : (level number : ℕ) (es : List Entry) (bs : List ℕ) → number < 2 ^ 16 → length es ≤ 10 → AllByRecursion Fit es → bs ≡ page_bytes level number es → Holds level number es bs
-holds level number es bs k l f e = (e, ap content_of e ∙ round_trip level number es k l f)
+pub holds : (level number : ℕ) (es : List Entry) (b : List ℕ) → number < 2 ^ 16 → length es ≤ 10 → AllByRecursion Fit es → b ≡ page_bytes level number es → Holds level number es b
+holds level number es b k l f e = (e, ap content_of e ∙ round_trip level number es k l f)

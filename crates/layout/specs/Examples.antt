@@ -80,7 +80,7 @@ unclean_rows =
     ∷ []
 
 -- each row is an encoding, and says what was encoded
-abbrev pub Examples : Type 0
-Examples = AllByRecursion (λ r. (header_bytes r.header ≡ padded r.bytes) × (header_of (padded r.bytes) ≡ r.header)) header_rows
-    × AllByRecursion (λ r. (page_bytes r.level r.number r.entries ≡ padded r.bytes) × (content_of (padded r.bytes) ≡ page r.level r.number r.entries)) page_rows
-    × AllByRecursion (λ bs. clean_of (padded bs) ≡ false) unclean_rows
+pub record Examples : Type 0 where
+  pub headers : AllByRecursion (λ r. (header_bytes r.header ≡ padded r.bytes) × (header_of (padded r.bytes) ≡ r.header)) header_rows
+  pub pages : AllByRecursion (λ r. (page_bytes r.level r.number r.entries ≡ padded r.bytes) × (content_of (padded r.bytes) ≡ page r.level r.number r.entries)) page_rows
+  pub unclean : AllByRecursion (λ bs. clean_of (padded bs) ≡ false) unclean_rows

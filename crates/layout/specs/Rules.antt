@@ -6,6 +6,15 @@ use Rattle.layout.specs.declared.visit.Rule.{Rule}
 use Rattle.layout.specs.declared.visit.Rule.TheVariants.{A, B, C, D, E, F}
 use Rattle.layout.specs.Content.{Content, Own, Filled, LeafKeys, InnerKeys}
 
+-- a rule as a number: A is 1, F is 6; as a text it is its letter, whose code is 64 more
+abbrev pub letter : Rule → ℕ
+letter A = 1
+letter B = 2
+letter C = 3
+letter D = 4
+letter E = 5
+letter F = 6
+
 -- the rule on keys, by level: D for a leaf, at level 1, and E for an inner page, above it
 abbrev pub Keys : ℕ → ℕ → ℕ → List Entry → Type 0
 Keys zero start end es = ⊥

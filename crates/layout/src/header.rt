@@ -1,5 +1,5 @@
 // The header, page 1 of every index: which order it is for, and the tree's height, root and total of events.
-ghost use Rattle.std.specs.Prelude.{◌≡◌, ◌++◌, length, replicate, Decides};
+ghost use Rattle.std.specs.Prelude.{◌≡◌, Decides};
 ghost use Rattle.layout.specs.Heads.{header_bytes, header_of, Proper, ReadsHeader};
 
 // The greatest n, p and height.
@@ -23,27 +23,19 @@ pub struct Header {
 #[derive(Clone, Copy, PartialEq, Eq, Debug)]
 pub struct NotHeader;
 
-// The header over a whole page.
+// The page that encodes a header.
 impl From<Header> for [u8; 128] {
     ghost from_gives = { λ h bs. bs ≡ header_bytes h };
 
     fn from(h: Header) -> [u8; 128] {
+        let [r0, r1] = h.root.to_le_bytes();
+        let [t0, t1, t2, t3] = h.total.to_le_bytes();
         let mut page = [0; 128];
-        put_header(&mut page[0..16], h);
+        page[..16].copy_from_slice(&[
+            b'U', b'B', b'T', b'1', h.kind, h.n, h.p, h.height, r0, r1, 0, 0, t0, t1, t2, t3,
+        ]);
         page
     }
-}
-
-// Encodes a header into the first sixteen bytes of a page, which it is lent.
-fn put_header(part: &mut [u8], h: Header)
-    requires { length part.old ≡ 16 }
-    ensures { part.new ++ replicate 112 0 ≡ header_bytes h }
-{
-    let [r0, r1] = h.root.to_le_bytes();
-    let [t0, t1, t2, t3] = h.total.to_le_bytes();
-    part.copy_from_slice(&[
-        b'U', b'B', b'T', b'1', h.kind, h.n, h.p, h.height, r0, r1, 0, 0, t0, t1, t2, t3,
-    ]);
 }
 
 // What a page says at the places of a header.

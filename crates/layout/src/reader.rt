@@ -6,7 +6,7 @@ ghost use Rattle.layout.specs.Reading.{bytes_in, to_come};
 use crate::entry::Entry;
 
 // Borrows the bytes of a page; the cursor is at the entry to be read next.
-#[derive(Clone, Copy, Debug)]
+#[derive(Drop, Debug)]
 pub struct PageReader<'a> {
     bytes: &'a [u8; 128],
     at: usize,

@@ -1,4 +1,7 @@
 // A page as an opening visits it, and the rules that it asks.
+ghost use Rattle.std.specs.Prelude.{◌+◌, [], ◌∷◌, Some};
+ghost use Rattle.layout.specs.Rules.{letter};
+
 use std::fmt;
 
 // A page yet to visit: its number, the level it must have and its region.
@@ -28,6 +31,8 @@ pub enum Rule {
 }
 
 impl fmt::Display for Rule {
+    ghost output = { λ r. Some ((64 + letter r) ∷ []) };
+
     fn fmt<W: fmt::Write>(&self, f: &mut fmt::Formatter<W>) -> fmt::Result {
         f.write_str(match self {
             Rule::A => "A",

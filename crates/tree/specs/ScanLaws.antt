@@ -108,13 +108,12 @@ two_leaves second count p =
 -- It opens on 20 pages, and two of five charges are left. A wrong count, another total, or too few free pages are refused by F at page 1;
 -- a page reached twice by A, with one charge more left; a key past the region by D. With a charge of 2 page 4, at level 1, is not read.
 -- An empty tree opens on one page and without charge.
-abbrev pub ScanExample : Type 0
-ScanExample =
-    (opened (two_leaves 4 2) 20 5 2 2 8 1000 ≡ accepted (4 ∷ 3 ∷ 2 ∷ []) 8 2)
-    × (opened (two_leaves 4 3) 20 5 2 2 8 1000 ≡ refused 1 F 2)
-    × (opened (two_leaves 4 2) 20 5 2 2 9 1000 ≡ refused 1 F 2)
-    × (opened (two_leaves 4 2) 9 5 2 2 8 1000 ≡ refused 1 F 2)
-    × (opened (two_leaves 3 2) 20 5 2 2 8 1000 ≡ refused 3 A 3)
-    × (opened (two_leaves 4 2) 20 5 2 2 8 120 ≡ refused 4 D 2)
-    × (opened (two_leaves 4 2) 20 2 2 2 8 1000 ≡ uncharged 4 1)
-    × (opened (two_leaves 4 2) 1 0 0 0 0 1000 ≡ accepted [] 0 0)
+pub record ScanExample : Type 0 where
+  pub opens : opened (two_leaves 4 2) 20 5 2 2 8 1000 ≡ accepted (4 ∷ 3 ∷ 2 ∷ []) 8 2
+  pub count : opened (two_leaves 4 3) 20 5 2 2 8 1000 ≡ refused 1 F 2
+  pub total : opened (two_leaves 4 2) 20 5 2 2 9 1000 ≡ refused 1 F 2
+  pub room : opened (two_leaves 4 2) 9 5 2 2 8 1000 ≡ refused 1 F 2
+  pub twice : opened (two_leaves 3 2) 20 5 2 2 8 1000 ≡ refused 3 A 3
+  pub region : opened (two_leaves 4 2) 20 5 2 2 8 120 ≡ refused 4 D 2
+  pub charge : opened (two_leaves 4 2) 20 2 2 2 8 1000 ≡ uncharged 4 1
+  pub empty : opened (two_leaves 4 2) 1 0 0 0 0 1000 ≡ accepted [] 0 0

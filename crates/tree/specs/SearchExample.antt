@@ -23,15 +23,16 @@ example_box a = nat_le 4 a && nat_le a 7
 abbrev pub example_steps : List Step
 example_steps = search_steps example_box 0 example_tree 0 63
 
--- its steps; and what comes of them with a charge and room for finds: done with 4 to 7; 4 and 5, cut at 6; cut at 4; and 4, more at 5 after 2 reads
-abbrev pub SearchExample : Type 0
-SearchExample =
-    Ordered example_tree 0 63 × Level example_tree 2 ×
-    (example_steps ≡ reads 5 4 ∷ reads 2 4 ∷ finds (at 4) ∷ finds (at 5) ∷ reads 4 6 ∷ finds (at 6) ∷ finds (at 7) ∷ []) ×
-    (map (λ (limit : ℕ × ℕ). run example_steps limit.0 limit.1) ((3, 4) ∷ (2, 4) ∷ (0, 4) ∷ (3, 1) ∷ [])
+-- The tree is sound, and a search of it takes these steps. What comes of them with a charge and room for finds: done with 4 to 7; 4 and 5, cut at 6;
+-- cut at 4; and 4, more at 5 after 2 reads. From 6 on it finds 6 and 7.
+pub record SearchExample : Type 0 where
+  pub ordered : Ordered example_tree 0 63
+  pub level : Level example_tree 2
+  pub steps : example_steps ≡ reads 5 4 ∷ reads 2 4 ∷ finds (at 4) ∷ finds (at 5) ∷ reads 4 6 ∷ finds (at 6) ∷ finds (at 7) ∷ []
+  pub limited : map (λ (limit : ℕ × ℕ). run example_steps limit.0 limit.1) ((3, 4) ∷ (2, 4) ∷ (0, 4) ∷ (3, 1) ∷ [])
     ≡ outcome (map at (4 ∷ 5 ∷ 6 ∷ 7 ∷ [])) Ending.done 3
     ∷ outcome (map at (4 ∷ 5 ∷ [])) (Ending.cut 4 6) 2
     ∷ outcome [] (Ending.cut 5 4) 0
     ∷ outcome (map at (4 ∷ [])) (Ending.more 5) 2
-    ∷ []) ×
-    (run (search_steps example_box 6 example_tree 0 63) 3 4 ≡ outcome (map at (6 ∷ 7 ∷ [])) Ending.done 2)
+    ∷ []
+  pub later : run (search_steps example_box 6 example_tree 0 63) 3 4 ≡ outcome (map at (6 ∷ 7 ∷ [])) Ending.done 2

@@ -1,6 +1,6 @@
 // Edits of a page's entries: those of a leaf, and those of an inner page.
-ghost use Rattle.std.specs.Prelude.{◌≡◌, ℕ, ◌<◌, length};
-ghost use Rattle.layout.specs.Listed.{entries, ChildPlace};
+ghost use Rattle.std.specs.Prelude.{◌≡◌, ◌<◌, length};
+ghost use Rattle.layout.specs.Listed.{entries};
 ghost use Rattle.layout.specs.Edits.{found, drop_child_lem, fit_leaf, fit_inner};
 ghost use Rattle.layout.specs.Changes.{Enters, Removes, Picks, Puts, Ends, after_split, Few};
 
@@ -76,16 +76,9 @@ impl EntryList {
     pub fn put_child(&mut self, address: u64, pages: ChildPages) -> Result<(), Full>
         ensures { Puts address pages (entries self.old) result (entries self.new) }
     {
-        match self.child_place(address) {
-            Some(i) => self.put_at(i, pages),
-            None => Ok(()),
-        }
-    }
-
-    fn put_at(&mut self, i: usize, pages: ChildPages) -> Result<(), Full>
-        requires { i < length (entries self.old) }
-        ensures { (a : ℕ) → ChildPlace (entries self.old) a i → Puts a pages (entries self.old) result (entries self.new) }
-    {
+        let Some(i) = self.child_place(address) else {
+            return Ok(());
+        };
         let key = self.end_key(i);
         match pages {
             ChildPages::One(value) => self.items[i] = Entry { key, value },
@@ -122,15 +115,9 @@ impl EntryList {
     pub fn drop_child(&mut self, address: u64)
         ensures { entries self.new ≡ drop_child_lem (entries self.old) address }
     {
-        if let Some(i) = self.child_place(address) {
-            self.drop_at(i);
-        }
-    }
-
-    fn drop_at(&mut self, i: usize)
-        requires { i < length (entries self.old) }
-        ensures { (a : ℕ) → ChildPlace (entries self.old) a i → entries self.new ≡ drop_child_lem (entries self.old) a }
-    {
+        let Some(i) = self.child_place(address) else {
+            return;
+        };
         self.items.remove(i);
         if i > 0 && i == self.len() {
             self.items[i - 1].key = 0;

@@ -4,8 +4,8 @@ use Rattle.layout.proofs.laws.examples_stand.Goals as goal
 
 pub returns : goal.returns
 unfolding clean_of
-returns c = (
-  ((refl, refl), ((refl, refl), ((refl, refl), ((refl, refl), tt)))),
-  ((refl, refl), ((refl, refl), ((refl, refl), ((refl, refl), ((refl, refl), ((refl, refl), ((refl, refl), ((refl, refl), tt)))))))),
-  (refl, (refl, (refl, (refl, tt)))),
-)
+returns c = record {
+  headers = ((refl, refl), ((refl, refl), ((refl, refl), ((refl, refl), tt))));
+  pages = ((refl, refl), ((refl, refl), ((refl, refl), ((refl, refl), ((refl, refl), ((refl, refl), ((refl, refl), ((refl, refl), tt))))))));
+  unclean = (refl, (refl, (refl, (refl, tt))));
+}

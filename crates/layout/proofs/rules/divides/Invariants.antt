@@ -1,8 +1,7 @@
-use Rattle.std.proofs.Common.{[], ◌∷◌, ◌++◌, drop}
+use Rattle.std.proofs.Common.{◌↔◌, [], ◌∷◌, ◌++◌, drop}
 use Rattle.layout.specs.Content.{InnerKeys}
-use Rattle.layout.proofs.Judging.{Same}
 use Rattle.layout.proofs.rules.divides.Given as goal
 
 -- what is left decides
 abbrev pub invariant-loop-e : goal.invariant-loop-e
-invariant-loop-e l = Same (InnerKeys l.low l.end (drop l.e-index l.others ++ l.last ∷ [])) (InnerKeys l.start l.end l.entries)
+invariant-loop-e l = InnerKeys l.low l.end (drop l.e-index l.others ++ l.last ∷ []) ↔ InnerKeys l.start l.end l.entries

@@ -5,4 +5,4 @@ use Rattle.tree.proofs.scan_laws.scan_example_stands.Goals as goal
 -- all by computation
 pub returns : goal.returns
 unfolding opened concluded scan turn judged expand filled own admits
-returns c = (refl, refl, refl, refl, refl, refl, refl, refl)
+returns c = record { opens = refl; count = refl; total = refl; room = refl; twice = refl; region = refl; charge = refl; empty = refl }

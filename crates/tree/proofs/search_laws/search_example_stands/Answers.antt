@@ -5,4 +5,4 @@ use Rattle.tree.proofs.search_laws.search_example_stands.Goals as goal
 
 pub returns : goal.returns
 unfolding first
-returns c = (omega arith, omega arith, refl, refl, refl)
+returns c = record { ordered = omega arith; level = omega arith; steps = refl; limited = refl; later = refl }
