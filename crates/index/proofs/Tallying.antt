@@ -26,24 +26,24 @@ stays : (o : Order) (s : State) (a : Answer) (call : Call) → ((c : Content) �
 stays o s a call does = record { size = refl; exact = λ c kept. record { next = c; kept = kept; does = does c } }
 
 -- an index that is open on the tree t
-pub from_tree : (o : Order) (m : Image) (x : Option OpenTree) (t : OpenTree) (a : Answer) (u : State) (call : Call) → x ≡ Some t →
+pub from_tree : {o : Order} {m : Image} {x : Option OpenTree} {t : OpenTree} {a : Answer} {u : State} {call : Call} → x ≡ Some t →
     Step o (state m (known_tree t)) a u call → Step o (state m (known_in x)) a u call
-from_tree o m x t a u call e step = subst (λ (y : Option OpenTree). Step o (state m (known_in y)) a u call) (sym e) step
+from_tree {o} {m} {x} {t} {a} {u} {call} e step = subst (λ (y : Option OpenTree). Step o (state m (known_in y)) a u call) (sym e) step
 
 -- and stays so
-pub on_tree : (o : Order) (m m' : Image) (x : Option OpenTree) (t : OpenTree) (a : Answer) (call : Call) → x ≡ Some t →
+pub on_tree : {o : Order} {m m' : Image} {x : Option OpenTree} {t : OpenTree} {a : Answer} {call : Call} → x ≡ Some t →
     Step o (state m (known_tree t)) a (state m' (known_tree t)) call → Step o (state m (known_in x)) a (state m' (known_in x)) call
-on_tree o m m' x t a call e step = subst (λ (y : Option OpenTree). Step o (state m (known_in y)) a (state m' (known_in y)) call) (sym e) step
+on_tree {o} {m} {m'} {x} {t} {a} {call} e step = subst (λ (y : Option OpenTree). Step o (state m (known_in y)) a (state m' (known_in y)) call) (sym e) step
 
 -- 5
-pub shut_refused : (o : Order) (m : Image) (x : Option OpenTree) (p : List ℕ) (call : Call) → x ≡ None → Names p call → Step o (state m (known_in x)) (refusal Shut) (state m (known_in x)) call
-shut_refused o m x p call e names =
-    stays o (state m (known_in x)) (refusal Shut) call (λ c. not_open p names (ap known_in e) refl refl refl)
+pub shut_refused : {o : Order} {m : Image} {x : Option OpenTree} {p : List ℕ} {call : Call} → x ≡ None → Names p call →
+    Step o (state m (known_in x)) (refusal Shut) (state m (known_in x)) call
+shut_refused {o} {m} {x} {p} {call} e names = stays o (state m (known_in x)) (refusal Shut) call (λ c. not_open p names (ap known_in e) refl refl refl)
 
 -- 6
-pub outside_refused : (o : Order) (m : Image) (t : OpenTree) (p : List ℕ) (call : Call) (f : Fault) → Names p call → LiesOutside o p f →
+pub outside_refused : {o : Order} {m : Image} (t : OpenTree) {p : List ℕ} {call : Call} {f : Fault} → Names p call → LiesOutside o p f →
     Step o (state m (known_tree t)) (refusal f) (state m (known_tree t)) call
-outside_refused o m t p call f names at =
+outside_refused {o} {m} t {p} {call} {f} names at =
     stays o (state m (known_tree t)) (refusal f) call (λ c. outside p t.height t.root t.total (numbers t.free) names refl at.away (ap refusal at.told) refl refl)
 
 -- an index that is open has a tree on file, and the path functions find it kept
