@@ -15,7 +15,7 @@ use Rattle.searches.specs.declared.find.Found.{Found}
 use Rattle.searches.specs.Finds.{ending_of}
 use Rattle.searches.specs.Walking.{StandsAs}
 use Rattle.searches.specs.Searching.{Tells, Searches}
-use Rattle.index.specs.Model.{state, limit, refusal}
+use Rattle.index.specs.Model.{state, limit}
 use Rattle.index.specs.Model.Call.{searches}
 use Rattle.index.specs.Model.Answer.{found}
 use Rattle.index.specs.Model.Known.{knows}

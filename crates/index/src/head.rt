@@ -27,9 +27,7 @@ pub(crate) fn read_head<S: PageStore, O: PointOrder>(
 {
     let mut page = [0; 128];
     fetch(store, HEADER, &mut page)?;
-    let Some(header) = read_header(&page) else {
-        return Err(Fault::NoHeader);
-    };
+    let header = read_header(&page).ok_or(Fault::NoHeader)?;
     if !is_ours(order, &header) {
         return Err(Fault::OtherOrder);
     }
