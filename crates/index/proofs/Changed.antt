@@ -1,5 +1,5 @@
 -- A path copy and the header over it make a step.
-use Rattle.std.proofs.Common.{◌≡◌, ℕ, ◌≤◌, min, List, [], ◌∷◌, ◌++◌, length, drop, Ok, Err, Result, sym, refl, ◌∙◌, subst, inl, inr, arith}
+use Rattle.std.proofs.Common.{◌≡◌, ℕ, ◌≤◌, List, [], ◌∷◌, ◌++◌, length, drop, Ok, Err, Result, sym, refl, ◌∙◌, subst, inl, inr, arith}
 use Rattle.std.specs.List.{AllByRecursion}
 use Rattle.pages.specs.Image.{Image, at, written, Writes}
 use Rattle.pages.specs.declared.fault.StoreFault.{StoreFault}
@@ -23,7 +23,7 @@ use Rattle.index.specs.Keeping.Content.{filed}
 use Rattle.index.specs.Changes.{Changes, tree_state, file_of, known_of}
 use Rattle.index.specs.Changes.Changes.{copy_refused, header_unpaid, changed}
 use Rattle.index.specs.Freed.{FitsList, GivenBack}
-use Rattle.index.specs.Sealing.{Seals, header_with}
+use Rattle.index.specs.Head.{WritesHead, header_with}
 use Rattle.index.specs.Steps.{Does, Goes}
 use Rattle.index.proofs.Changing.{still_holds, now_holds}
 use Rattle.index.proofs.Settling.{After}
@@ -48,30 +48,27 @@ module _ (o : Order) (m : Image) (k : Known) (f : Filed) (free : List ℕ) (hold
     (Copy : Result Copied Fault → Image → Type 0)
     (rule : (a : Answer) (u : State) (v : Content) → Changes o (state m k) f Copy t total a u v → Does o (filed f) (state m k) a u v call) where
   -- the free list after the header is the new tree's
-  free_after : (g : Copied) (m' : Image) (free' : List ℕ) → MadeCopy o m f free t total g m' → GivenBack g.path (min f.height 6) (drop g.used free) free' → free' ≡ t.free
+  free_after : (g : Copied) (m' : Image) (free' : List ℕ) → MadeCopy o m f free t total g m' → GivenBack g.path f.height (drop g.used free) free' → free' ≡ t.free
   free_after g m' free' made given =
-      let low = holds.low in
-      let h : min f.height 6 ≡ f.height = omega arith in
       let range = range_law (contents m') (limit m) total (top o) t made.kept in
       let all = subst (λ (xs : List ℕ). AllByRecursion (λ p. (2 ≤ p) × (p ≤ limit m)) xs) made.freed range.1 in
       let apart = subst (λ (xs : List ℕ). Apart xs) made.freed range.2 in
-      let given' = subst (λ (n : ℕ). GivenBack g.path n (drop g.used free) free') h given in
-      given' (all_front (limit m) (back f.height g.path) (drop g.used free) (omega arith) all) apart ∙ sym made.freed
+      given (all_front (limit m) (back f.height g.path) (drop g.used free) (omega arith) all) apart ∙ sym made.freed
 
   pub sealed : (g : Copied) (m' m'' : Image) (free' : List ℕ) → MadeCopy o m f free t total g m' → Copy (Ok g) m' →
-      Seals o m' free f.height g.height g.root total g.used g.path (Ok tt) m'' free' →
+      WritesHead o m' g.height g.root total (Ok tt) m'' → GivenBack g.path f.height (drop g.used free) free' →
       Goes o (filed f) (state m k) accepted (state m'' (knows g.height g.root total free')) call
-  sealed g m' m'' free' made copy seals =
+  sealed g m' m'' free' made copy head given =
       let em : m'' ≡ written m' 1 (header_bytes (header_for o (file_of t total))) =
-      seals.0.2 ∙ (λ i. written m' 1 (header_bytes (header_with o (made.height i) (made.root i) total))) in
-      let ef = free_after g m' free' made seals.1 in
+      head.2 ∙ (λ i. written m' 1 (header_bytes (header_with o (made.height i) (made.root i) total))) in
+      let ef = free_after g m' free' made given in
       let eu : state m'' (knows g.height g.root total free') ≡ state (written m' 1 (header_bytes (header_for o (file_of t total)))) (known_of t total) =
       λ i. state (em i) (knows (made.height i) (made.root i) total (ef i)) in
       subst (λ (u : State). Goes o (filed f) (state m k) accepted u call) (sym eu)
       (record {
         next = filed (file_of t total);
         kept = now_holds o m m' made.page made.size t total holds.there made.kept made.low made.counts;
-        does = rule accepted _ _ (changed g m' copy seals.0.1 refl refl refl);
+        does = rule accepted _ _ (changed g m' copy head.1 refl refl refl);
       })
 
   -- the header is refused for want of charge: page 1 is there
@@ -88,13 +85,12 @@ module _ (o : Order) (m : Image) (k : Known) (f : Filed) (free : List ℕ) (hold
         does = rule _ _ _ (header_unpaid g m' copy w.1 refl refl refl);
       })
 
-  pub unsealed : (g : Copied) (m' m'' : Image) (free' : List ℕ) (fault : Fault) → MadeCopy o m f free t total g m' → Copy (Ok g) m' →
-      Seals o m' free f.height g.height g.root total g.used g.path (Err fault) m'' free' →
+  pub unsealed : (g : Copied) (m' m'' : Image) (fault : Fault) → MadeCopy o m f free t total g m' → Copy (Ok g) m' →
+      WritesHead o m' g.height g.root total (Err fault) m'' →
       Goes o (filed f) (state m k) (refusal fault) (state m'' k) call
-  unsealed g m' m'' free' fault made copy (x, told, page, level, w, same) =
-      let e : fault ≡ unwritten (record { page = 1; level = 0; fault = x.fault }) = told ∙ (λ i. unwritten (record { page = page i; level = level i; fault = x.fault })) in
-      subst (λ (y : Fault). Goes o (filed f) (state m k) (refusal y) (state m'' k) call) (sym e)
-      (unpaid g m' m'' x.fault (header_bytes (header_with o g.height g.root total)) made copy w)
+  unsealed g m' m'' fault made copy (e, told, w) =
+      subst (λ (y : Fault). Goes o (filed f) (state m k) (refusal y) (state m'' k) call) (sym told)
+      (unpaid g m' m'' e (header_bytes (header_with o g.height g.root total)) made copy w)
 
   -- a copy that was refused
   pub not_copied : (fault : Fault) (m' : Image) → Copy (Err fault) m' → at m' 1 ≡ at m 1 → length m'.pages ≡ length m.pages →
@@ -106,9 +102,9 @@ module _ (o : Order) (m : Image) (k : Known) (f : Filed) (free : List ℕ) (hold
   }
 
   -- either way
-  pub ended : (g : Copied) (m' m'' : Image) (free' : List ℕ) (res : Result (Unit {0}) Fault) (k' : Known) → MadeCopy o m f free t total g m' → Copy (Ok g) m' →
-      Seals o m' free f.height g.height g.root total g.used g.path res m'' free' → After res k g total free' k' → Goes o (filed f) (state m k) (told res) (state m'' k') call
-  ended g m' m'' free' (Ok u) k' made copy seals after =
-      subst (λ (y : Known). Goes o (filed f) (state m k) accepted (state m'' y) call) (sym after) (sealed g m' m'' free' made copy seals)
-  ended g m' m'' free' (Err fault) k' made copy seals after =
-      subst (λ (y : Known). Goes o (filed f) (state m k) (refusal fault) (state m'' y) call) (sym after) (unsealed g m' m'' free' fault made copy seals)
+  pub ended : (g : Copied) (m' m'' : Image) (res : Result (Unit {0}) Fault) (k' : Known) → MadeCopy o m f free t total g m' → Copy (Ok g) m' →
+      WritesHead o m' g.height g.root total res m'' → After res f.height free k g total k' → Goes o (filed f) (state m k) (told res) (state m'' k') call
+  ended g m' m'' (Ok u) k' made copy head (free', after, given) =
+      subst (λ (y : Known). Goes o (filed f) (state m k) accepted (state m'' y) call) (sym after) (sealed g m' m'' free' made copy head given)
+  ended g m' m'' (Err fault) k' made copy head after =
+      subst (λ (y : Known). Goes o (filed f) (state m k) (refusal fault) (state m'' y) call) (sym after) (unsealed g m' m'' fault made copy head)

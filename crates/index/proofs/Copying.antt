@@ -1,5 +1,5 @@
 -- A call that copies a path is a step: what is left to show of it is said once for lodge and withdraw.
-use Rattle.std.proofs.Common.{◌≡◌, ℕ, ◌≤◌, Bool, List, [], ◌∷◌, length, Ok, Err, Result, ◌∙◌, subst, arith}
+use Rattle.std.proofs.Common.{◌≡◌, ℕ, ◌≤◌, List, [], ◌∷◌, length, Ok, Err, Result, ◌∙◌, subst, arith}
 use Rattle.std.specs.List.{AllByRecursion}
 use Rattle.pages.specs.Image.{Image, at}
 use Rattle.orders.specs.Orders.{Order}
@@ -14,13 +14,11 @@ use Rattle.index.specs.Model.Known.{knows}
 use Rattle.index.specs.Keeping.{Content, Filed, Holds, top}
 use Rattle.index.specs.Keeping.Content.{filed}
 use Rattle.index.specs.Changes.{Changes, tree_state}
-use Rattle.index.specs.Located.{IsOpen}
-use Rattle.index.specs.Sealing.{Seals}
+use Rattle.index.specs.Head.{WritesHead}
 use Rattle.index.specs.Steps.{Step, Does}
-use Rattle.index.specs.View.{known_if}
 use Rattle.index.proofs.Changed.{MadeCopy, ended, not_copied}
-use Rattle.index.proofs.Settling.{After, seal_size}
-use Rattle.index.proofs.Tallying.{open_steps, remembers}
+use Rattle.index.proofs.Settling.{After, head_size}
+use Rattle.index.proofs.Tallying.{open_steps}
 
 -- page 1 is none of the pages from 2 on
 pub above_one : (l : ℕ) (xs : List ℕ) → AllByRecursion (λ p. (2 ≤ p) × (p ≤ l)) xs → Absent 1 xs
@@ -28,30 +26,27 @@ above_one l [] all = tt
 above_one l (x ∷ xs) all = ((λ e. omega (arith, all.0.0)), above_one l xs all.1)
 
 -- `Copy f` is what the path copy is of the tree f on file, `next f` the tree after it and `total f` its events; the rule is the call's.
-module _ (o : Order) (m : Image) (b : Bool) (h r t : ℕ) (free : List ℕ) (call : Call) (is : IsOpen (known_if b h r t free))
+module _ (o : Order) (m : Image) (h r t : ℕ) (free : List ℕ) (call : Call)
     (Copy : Filed → Result Copied Fault → Image → Type 0) (next : Filed → TreeState) (total : Filed → ℕ)
     (rule : (f : Filed) → Holds o (state m (knows h r t free)) f → (a : Answer) (u : State) (v : Content) →
     Changes o (state m (knows h r t free)) f (Copy f) (next f) (total f) a u v → Does o (filed f) (state m (knows h r t free)) a u v call) where
   -- refused before or during the copy: the old tree is kept, and page 1 is as it was
   pub refused_step : (fault : Fault) (m' : Image) → length m'.pages ≡ length m.pages →
       ((f : Filed) → Holds o (state m (knows h r t free)) f → Copy f (Err fault) m' × (at m' 1 ≡ at m 1) × TreeKept (contents m') (limit m) f.total (top o) (tree_state f free)) →
-      Step o (state m (known_if b h r t free)) (refusal fault) (state m' (known_if b h r t free)) call
+      Step o (state m (knows h r t free)) (refusal fault) (state m' (knows h r t free)) call
   refused_step fault m' size facts =
-      subst (λ (k : Known). Step o (state m k) (refusal fault) (state m' k) call) (remembers b h r t free is)
-      (open_steps o m m' h r t free (refusal fault) (knows h r t free) call size (λ f holds.
+      open_steps o m m' h r t free (refusal fault) (knows h r t free) call size (λ f holds.
       let known = facts f holds in
-      not_copied o m (knows h r t free) f free holds (next f) (total f) call (Copy f) (rule f holds) fault m' known.0 known.1 size known.2))
+      not_copied o m (knows h r t free) f free holds (next f) (total f) call (Copy f) (rule f holds) fault m' known.0 known.1 size known.2)
 
   -- copied, and the header written or not
-  pub copied_step : (g : Copied) (m' m'' : Image) (free' : List ℕ) (sum : ℕ) (res : Result (Unit {0}) Fault) (k' : Known) → length m'.pages ≡ length m.pages →
+  pub copied_step : (g : Copied) (m' m'' : Image) (sum : ℕ) (res : Result (Unit {0}) Fault) (k' : Known) → length m'.pages ≡ length m.pages →
       ((f : Filed) → Holds o (state m (knows h r t free)) f → Copy f (Ok g) m' × MadeCopy o m f free (next f) (total f) g m' × (sum ≡ total f)) →
-      Seals o m' free h g.height g.root sum g.used g.path res m'' free' → After res (knows h r t free) g sum free' k' →
-      Step o (state m (known_if b h r t free)) (told res) (state m'' k') call
-  copied_step g m' m'' free' sum res k' size facts seals after =
-      subst (λ (k : Known). Step o (state m k) (told res) (state m'' k') call) (remembers b h r t free is)
-      (open_steps o m m'' h r t free (told res) k' call (seal_size o m' m'' free free' g.path h g.height g.root sum g.used res seals ∙ size) (λ f holds.
+      WritesHead o m' g.height g.root sum res m'' → After res h free (knows h r t free) g sum k' → Step o (state m (knows h r t free)) (told res) (state m'' k') call
+  copied_step g m' m'' sum res k' size facts head after =
+      open_steps o m m'' h r t free (told res) k' call (head_size o m' m'' g.height g.root sum res head ∙ size) (λ f holds.
       let known = facts f holds in
-      let seals' = subst (λ (n : ℕ). Seals o m' free f.height g.height g.root n g.used g.path res m'' free') known.2
-      (subst (λ (n : ℕ). Seals o m' free n g.height g.root sum g.used g.path res m'' free') holds.agrees.0 seals) in
-      ended o m (knows h r t free) f free holds (next f) (total f) call (Copy f) (rule f holds)
-      g m' m'' free' res k' known.1 known.0 seals' (subst (λ (n : ℕ). After res (knows h r t free) g n free' k') known.2 after)))
+      ended o m (knows h r t free) f free holds (next f) (total f) call (Copy f) (rule f holds) g m' m'' res k' known.1 known.0
+      (subst (λ (n : ℕ). WritesHead o m' g.height g.root n res m'') known.2 head)
+      (subst (λ (n : ℕ). After res f.height free (knows h r t free) g n k') known.2
+      (subst (λ (n : ℕ). After res n free (knows h r t free) g sum k') holds.agrees.0 after)))

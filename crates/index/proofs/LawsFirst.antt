@@ -125,5 +125,5 @@ first_law o law m x inside enough charge =
     let len : length m'.pages ≡ length m.pages = length-set m.pages 0 bytes in
     let eight : 8 ≤ limit m' = omega (arith, len) in
     let step : Step o (state m shut) accepted (state m' (knows 0 0 0 (usable (limit m')))) formats =
-    formats_memory o m m' shut bytes (usable (limit m')) ((omega arith, omega arith), omega arith, refl) refl (ap (λ (n : ℕ). usable (min n 1024)) len) in
+    formats_memory o m m' shut (usable (limit m')) ((omega arith, omega arith), omega arith, refl) (ap (λ (n : ℕ). usable (min n 1024)) len) in
     (_, goes_on (goes_on begun step) (first_lodge o law m' x inside eight (omega (arith, len)) (omega arith)))

@@ -1,5 +1,5 @@
 -- Lodge is a step.
-use Rattle.std.proofs.Common.{◌≡◌, ℕ, suc, ◌+◌, ◌<◌, ◌≤◌, Bool, List, [], ◌∷◌, ◌++◌, length, drop, Ok, Err, Result, sym, refl, ap, ◌∙◌, subst, inl, inr, add-one, arith, take-append-drop}
+use Rattle.std.proofs.Common.{◌≡◌, ℕ, suc, ◌+◌, ◌<◌, ◌≤◌, List, [], ◌∷◌, ◌++◌, length, drop, Ok, Err, Result, sym, refl, ap, ◌∙◌, subst, inl, inr, add-one, arith, take-append-drop}
 use Rattle.std.specs.List.{AllByRecursion}
 use Rattle.pages.specs.Image.{Image, at}
 use Rattle.orders.specs.Orders.{Order, Lawful}
@@ -30,9 +30,8 @@ use Rattle.index.specs.Keeping.Content.{filed}
 use Rattle.index.specs.Changes.{Changes, tree_state}
 use Rattle.index.specs.Steps.{Step, Does}
 use Rattle.index.specs.Steps.Does.{lodged}
-use Rattle.index.specs.View.{known_if}
-use Rattle.index.specs.Located.{Located}
-use Rattle.index.specs.Sealing.{Seals}
+use Rattle.index.specs.Located.{Inside}
+use Rattle.index.specs.Head.{WritesHead}
 use Rattle.index.proofs.Changing.{knows_file, tree_kept}
 use Rattle.index.proofs.Headers.{file_numbers}
 use Rattle.index.proofs.Changed.{MadeCopy}
@@ -111,24 +110,24 @@ lodge_size m m' h p a free res is = elim (cases_lt 6 h) [
   | inr low ↦ lodged_size m m' h p a free res (is.always low)
 ]
 
-module _ (o : Order) (law : Lawful o) (m m' : Image) (b : Bool) (h r t : ℕ) (free x : List ℕ) (a : ℕ) (at : Located o (known_if b h r t free) x (Ok a)) where
+module _ (o : Order) (law : Lawful o) (m m' : Image) (h r t : ℕ) (free x : List ℕ) (a : ℕ) (at : Inside o x a) where
   rule : (f : Filed) → Holds o (state m (knows h r t free)) f → (ans : Answer) (u : State) (v : Content) →
       Changes o (state m (knows h r t free)) f (Lodges m (tree_state f free) (o.address x)) (lodge_step (tree_state f free) (o.address x)).next (suc f.total) ans u v →
       Does o (filed f) (state m (knows h r t free)) ans u v (lodges x)
-  rule f holds ans u v changes = lodged f free refl (knows_file (limit m) h r t free f holds.agrees) at.1 changes
+  rule f holds ans u v changes = lodged f free refl (knows_file (limit m) h r t free f holds.agrees) at.inside changes
 
   in_range : o.address x ≤ top o
-  in_range = omega (arith, (law.there x at.1).0)
+  in_range = omega (arith, (law.there x at.inside).0)
 
   of_file : (res : Result Copied Fault) → LodgeIs m r h a free res m' → (f : Filed) → Holds o (state m (knows h r t free)) f → Lodges m (tree_state f free) (o.address x) res m'
   of_file res is f holds =
       let low : h ≤ 6 = subst (λ (n : ℕ). n ≤ 6) (sym holds.agrees.0) holds.low in
-      let in_top : a ≤ top o = subst (λ (y : ℕ). y ≤ top o) (sym at.2) in_range in
-      subst (λ (y : ℕ). Lodges m (tree_state f free) y res m') at.2 (is.kept (limit m) f.total (top o) (tree_state f free) (open_file o m h r t free f holds) refl in_top low)
+      let in_top : a ≤ top o = subst (λ (y : ℕ). y ≤ top o) (sym at.address) in_range in
+      subst (λ (y : ℕ). Lodges m (tree_state f free) y res m') at.address (is.kept (limit m) f.total (top o) (tree_state f free) (open_file o m h r t free f holds) refl in_top low)
 
-  pub lodge_refused : (fault : Fault) → LodgeIs m r h a free (Err fault) m' → Step o (state m (known_if b h r t free)) (refusal fault) (state m' (known_if b h r t free)) (lodges x)
+  pub lodge_refused : (fault : Fault) → LodgeIs m r h a free (Err fault) m' → Step o (state m (knows h r t free)) (refusal fault) (state m' (knows h r t free)) (lodges x)
   lodge_refused fault is =
-      refused_step o m b h r t free (lodges x) at.0 (λ f. Lodges m (tree_state f free) (o.address x)) (λ f. (lodge_step (tree_state f free) (o.address x)).next) (λ f. suc f.total) rule
+      refused_step o m h r t free (lodges x) (λ f. Lodges m (tree_state f free) (o.address x)) (λ f. (lodge_step (tree_state f free) (o.address x)).next) (λ f. suc f.total) rule
       fault m' (lodge_size m m' h r a free (Err fault) is) (λ f holds.
       let w = of_file (Err fault) is f holds in (
         w,
@@ -136,16 +135,16 @@ module _ (o : Order) (law : Lawful o) (m m' : Image) (b : Bool) (h r t : ℕ) (f
         lodge_keeps_old m m' (limit m) f.total (top o) (tree_state f free) (o.address x) fault (kept_tree o m h r t free f holds (o.address x) in_range) in_range w,
       ))
 
-  pub lodge_copied : (g : Copied) (m'' : Image) (free' : List ℕ) (sum : ℕ) (res : Result (Unit {0}) Fault) (k' : Known) → LodgeIs m r h a free (Ok g) m' →
+  pub lodge_copied : (g : Copied) (m'' : Image) (sum : ℕ) (res : Result (Unit {0}) Fault) (k' : Known) → LodgeIs m r h a free (Ok g) m' →
       (t + 1 < 4294967296 → sum ≡ t + 1) →
-      Seals o m' free h g.height g.root sum g.used g.path res m'' free' → After res (knows h r t free) g sum free' k' →
-      Step o (state m (known_if b h r t free)) (told res) (state m'' k') (lodges x)
-  lodge_copied g m'' free' sum res k' is es seals after =
-      copied_step o m b h r t free (lodges x) at.0 (λ f. Lodges m (tree_state f free) (o.address x)) (λ f. (lodge_step (tree_state f free) (o.address x)).next) (λ f. suc f.total) rule
-      g m' m'' free' sum res k' (lodge_size m m' h r a free (Ok g) is) (λ f holds.
+      WritesHead o m' g.height g.root sum res m'' → After res h free (knows h r t free) g sum k' →
+      Step o (state m (knows h r t free)) (told res) (state m'' k') (lodges x)
+  lodge_copied g m'' sum res k' is es head after =
+      copied_step o m h r t free (lodges x) (λ f. Lodges m (tree_state f free) (o.address x)) (λ f. (lodge_step (tree_state f free) (o.address x)).next) (λ f. suc f.total) rule
+      g m' m'' sum res k' (lodge_size m m' h r a free (Ok g) is) (λ f holds.
       let w = of_file (Ok g) is f holds in
       let made = made_lodging o m h r t free f holds (o.address x) in_range g m' w in
       let small = (file_numbers o law (contents m') (limit m) (omega arith) _ (suc f.total) _ made.kept.sound made.counts).1 in
       let same : t ≡ f.total = holds.agrees.2 in
       (w, made, es (omega arith) ∙ add-one t ∙ ap suc same))
-      seals after
+      head after

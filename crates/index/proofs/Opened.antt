@@ -9,6 +9,7 @@ use Rattle.layout.specs.declared.header.Header.{Header}
 use Rattle.orders.specs.Orders.{Order}
 use Rattle.tree.specs.CopyLaws.{usable, upward, unused}
 use Rattle.tree.specs.CopyWrites.{times}
+use Rattle.tree.specs.Tree.{limit_of}
 use Rattle.tree.specs.Scan.{absent as is_new}
 use Rattle.faults.specs.declared.fault.Fault.{Fault}
 use Rattle.faults.specs.declared.fault.Fault.TheVariants.{Shut, Outside, Work, Absent, Unread, NoHeader, OtherOrder, Unsound, NoEvent, CountFull, HeightFull, Room, Unwritten}
@@ -17,7 +18,7 @@ use Rattle.walks.specs.Scans.{Scans, Marked, last_page}
 use Rattle.index.specs.Model.{Known, state, limit, refusal}
 use Rattle.index.specs.Model.Answer.{accepted}
 use Rattle.index.specs.Model.Known.{shut, knows}
-use Rattle.index.specs.Head.{NoHead}
+use Rattle.index.specs.Head.{Head, NoHead}
 use Rattle.index.specs.Head.NoHead.{refused, none, other}
 use Rattle.index.specs.Keeping.{top}
 use Rattle.index.specs.Opening.{Opening, ReadsOurs}
@@ -89,10 +90,19 @@ scan_accepted o m k work h m' marks free got (records, low, (seen, ((left, e, em
     let free-is : free ≡ unused seen (usable (limit m)) = ef ∙ free_marked marks seen 2 (limit m - 1) marked in
     opens_on h seen h.total left got (rw (same_last o m k work) at e) refl (λ i. state (em i) (knows h.height h.root h.total (free-is i)))
 
--- the scan as the code calls it: behind the read of page 1, up to the last usable page and the greatest address
-pub scans_at : (o : Order) (m m₁ : Image) (last end : ℕ) (h : Header) (work : ℕ) (r : Result (Unit {0}) Fault) (m' : Image) (marks : List Bool) → m₁ ≡ spent m → last ≡ limit m → end ≡ top o →
-    Scans m₁ last h.height h.root h.total end work r m' marks → Scans (spent m) (limit m) h.height h.root h.total (top o) work r m' marks
-scans_at o m m₁ last end h work r m' marks em el et s =
-    subst (λ (y : ℕ). Scans (spent m) (limit m) h.height h.root h.total y work r m' marks) et
-    (subst (λ (y : ℕ). Scans (spent m) y h.height h.root h.total end work r m' marks) el
-    (subst (λ (y : Image). Scans y last h.height h.root h.total end work r m' marks) em s))
+-- page 1 was read: the header is of this order, and the scan goes up to the last usable page
+module _ {o : Order} {m m₁ : Image} {h : Header} (read : Head o m h m₁) where
+  pub reads_ours : {work : ℕ} → 64 ≤ work → ReadsOurs o m work h
+  reads_ours records =
+      record { records = records; there = read.got.there; charged = read.got.charged; proper = read.says.proper; says = read.says.bytes; ours = read.ours }
+
+  pub last_limit : {pages last : ℕ} → pages ≡ length m₁.pages → last ≡ limit_of pages → last ≡ limit m
+  last_limit ep el = el ∙ ap limit_of (ep ∙ ap (λ (i : Image). length i.pages) read.got.spends)
+
+  -- as the code calls it
+  pub scans_at : {pages last end : ℕ} (work : ℕ) (r : Result (Unit {0}) Fault) (m' : Image) (marks : List Bool) → pages ≡ length m₁.pages → last ≡ limit_of pages → end ≡ top o →
+      Scans m₁ last h.height h.root h.total end work r m' marks → Scans (spent m) (limit m) h.height h.root h.total (top o) work r m' marks
+  scans_at {last = last} {end} work r m' marks ep el et s =
+      subst (λ (y : ℕ). Scans (spent m) (limit m) h.height h.root h.total y work r m' marks) et
+      (subst (λ (y : ℕ). Scans (spent m) y h.height h.root h.total end work r m' marks) (last_limit ep el)
+      (subst (λ (y : Image). Scans y last h.height h.root h.total end work r m' marks) read.got.spends s))

@@ -9,12 +9,12 @@ use Rattle.tree.specs.CopyLaws.{usable, upward}
 use Rattle.tree.specs.CopyWrites.{times}
 use Rattle.records.specs.Chain.{unmarked}
 use Rattle.faults.specs.declared.fault.Fault.{Fault}
-use Rattle.faults.specs.Accesses.{Stores}
 use Rattle.faults.specs.Refusals.{unwritten}
 use Rattle.index.specs.Model.{Known, state, refusal, limit}
 use Rattle.index.specs.Model.Answer.{accepted}
 use Rattle.index.specs.Model.Known.{shut, knows}
 use Rattle.index.specs.Model.Call.{formats, shuts, grants}
+use Rattle.index.specs.Head.{WritesHead, header_with}
 use Rattle.index.specs.Keeping.{Holds, header_for}
 use Rattle.index.specs.Keeping.Content.{filed}
 use Rattle.index.specs.Steps.{Step, empty_file}
@@ -43,12 +43,11 @@ empty_holds o m le =
       agrees = (refl, refl, refl, λ p. zero-add _ ∙ ap (λ (l : ℕ). times p (usable (min l 1024))) (sym len));
     }
 
-pub formats_memory : (o : Order) (m m' : Image) (k : Known) (bytes free : List ℕ) → Writes m 1 bytes (Ok tt) m' → bytes ≡ header_bytes (header_for o empty_file) → free ≡ usable (limit m) →
+pub formats_memory : (o : Order) (m m' : Image) (k : Known) (free : List ℕ) → WritesHead o m 0 0 0 (Ok tt) m' → free ≡ usable (limit m) →
     Step o (state m k) accepted (state m' (knows 0 0 0 free)) formats
-formats_memory o m m' k bytes free w eb ef =
+formats_memory o m m' k free w ef =
     let le : 1 ≤ length m.pages = w.0.1 in
-    let em : m' ≡ written m 1 (header_bytes (header_for o empty_file)) = w.2 ∙ ap (written m 1) eb in
-    subst (λ (x : Image). Step o (state m k) accepted (state x (knows 0 0 0 free)) formats) (sym em)
+    subst (λ (x : Image). Step o (state m k) accepted (state x (knows 0 0 0 free)) formats) (sym w.2)
     (subst (λ (fs : List ℕ). Step o (state m k) accepted (state (written m 1 (header_bytes (header_for o empty_file))) (knows 0 0 0 fs)) formats) (sym ef)
     (record { size = length-set m.pages 0 (header_bytes (header_for o empty_file)); exact = λ c h. record { next = filed empty_file; kept = empty_holds o m le; does = formatted le w.1 refl refl refl } }))
 
@@ -62,9 +61,9 @@ refuses_format o m k bytes Uncharged m' w =
     subst (λ (x : Image). Step o (state m k) (refusal (unwritten (record { page = 1; level = 0; fault = Uncharged }))) (state x k) formats) (sym w.2)
     (record { size = refl; exact = λ c h. record { next = c; kept = h; does = format_uncharged w.0.1 w.1 refl refl refl } })
 
-pub format_refused : (o : Order) (m m' : Image) (k : Known) (bytes : List ℕ) (f : Fault) → Stores m 1 0 bytes (Err f) m' → Step o (state m k) (refusal f) (state m' k) formats
-format_refused o m m' k bytes f t =
-    subst (λ (z : Fault). Step o (state m k) (refusal z) (state m' k) formats) (sym t.1) (refuses_format o m k bytes t.0 m' t.2)
+pub format_refused : (o : Order) (m m' : Image) (k : Known) (f : Fault) → WritesHead o m 0 0 0 (Err f) m' → Step o (state m k) (refusal f) (state m' k) formats
+format_refused o m m' k f (e, told, w) =
+    subst (λ (z : Fault). Step o (state m k) (refusal z) (state m' k) formats) (sym told) (refuses_format o m k (header_bytes (header_with o 0 0 0)) e m' w)
 
 -- with no mark set, every number from a on is free
 pub none_marked : (marks : List Bool) (a n : ℕ) → ((k : ℕ) → get_or marks k false ≡ false) → unmarked marks a n ≡ upward a n

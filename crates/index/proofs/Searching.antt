@@ -1,5 +1,5 @@
 -- A search is a step.
-use Rattle.std.proofs.Common.{◌≡◌, ℕ, ◌-◌, ◌≤◌, min, Bool, List, [], ◌∷◌, length, take, Ok, Err, sym, refl, ap, subst, arith}
+use Rattle.std.proofs.Common.{◌≡◌, ℕ, ◌-◌, ◌≤◌, min, List, [], ◌∷◌, length, take, sym, refl, ap, subst, arith}
 use Rattle.std.specs.List.{AllByRecursion}
 use Rattle.pages.specs.Image.{Image}
 use Rattle.orders.specs.Orders.{Order, InSpaceOf}
@@ -15,30 +15,19 @@ use Rattle.searches.specs.declared.find.Found.{Found}
 use Rattle.searches.specs.Finds.{ending_of}
 use Rattle.searches.specs.Walking.{StandsAs}
 use Rattle.searches.specs.Searching.{Tells, Searches}
-use Rattle.index.specs.Model.{Known, state, limit, refusal}
+use Rattle.index.specs.Model.{state, limit}
 use Rattle.index.specs.Model.Call.{searches}
 use Rattle.index.specs.Model.Answer.{found}
 use Rattle.index.specs.Model.Known.{knows}
 use Rattle.index.specs.Keeping.{top}
 use Rattle.index.specs.Keeping.Content.{filed}
-use Rattle.index.specs.View.{known_if}
-use Rattle.index.specs.Located.{Located}
+use Rattle.index.specs.Located.{Inside, LiesOutside}
 use Rattle.index.specs.Searched.{search_of, answer_of}
 use Rattle.index.specs.Steps.{Step}
-use Rattle.index.specs.Steps.Names.{from_low, to_high}
 use Rattle.index.specs.Steps.Does.{searched}
 use Rattle.index.proofs.Keeps.{same_pages}
 use Rattle.index.proofs.Changing.{knows_file}
-use Rattle.index.proofs.Tallying.{located_refused, open_steps, remembers}
-
--- 5 and 6, of each end of the box
-pub refused_low : (o : Order) (m : Image) (k : Known) (lo hi x : List ℕ) (start room : ℕ) (f : Fault) → x ≡ lo → Located o k x (Err f) →
-    Step o (state m k) (refusal f) (state m k) (searches lo hi start room)
-refused_low o m k lo hi x start room f e h = located_refused o m k lo (searches lo hi start room) f from_low (subst (λ (y : List ℕ). Located o k y (Err f)) e h)
-
-pub refused_high : (o : Order) (m : Image) (k : Known) (lo hi x : List ℕ) (start room : ℕ) (f : Fault) → x ≡ hi → Located o k x (Err f) →
-    Step o (state m k) (refusal f) (state m k) (searches lo hi start room)
-refused_high o m k lo hi x start room f e h = located_refused o m k hi (searches lo hi start room) f to_high (subst (λ (y : List ℕ). Located o k y (Err f)) e h)
+use Rattle.index.proofs.Tallying.{open_steps}
 
 -- pages that a tree may use are pages of the store
 in_store : (l n : ℕ) → l ≡ min n 1024 → (ps : List ℕ) → AllByRecursion (λ p. (2 ≤ p) × (p ≤ l)) ps → AllByRecursion (λ p. (2 ≤ p) × (p ≤ n)) ps
@@ -79,10 +68,15 @@ module _ (o : Order) (m m' : Image) (h root start : ℕ) (lo hi : List ℕ) (mem
             (λ i. state (record { pages = s.same i; charge = left i }) (knows h root total free)) refl;
       }))
 
-pub searched_at : (o : Order) (m m' : Image) (b : Bool) (h root total : ℕ) (free lo hi x y : List ℕ) (start most p q : ℕ) (memory memory' : List Find) (r : Found) → x ≡ lo → y ≡ hi →
-    Located o (known_if b h root total free) x (Ok p) → Located o (known_if b h root total free) y (Ok q) → most ≡ top o → Searches o lo hi start m root h most memory r m' memory' →
-    Step o (state m (known_if b h root total free)) (found (take r.count memory') r.reads (ending_of r.ending)) (state m' (known_if b h root total free)) (searches lo hi start (length memory))
-searched_at o m m' b h root total free lo hi x y start most p q memory memory' r ex ey al ah e s =
-    subst (λ (k : Known). Step o (state m k) (found (take r.count memory') r.reads (ending_of r.ending)) (state m' k) (searches lo hi start (length memory))) (remembers b h root total free al.0)
-    (search_steps_open o m m' h root start lo hi memory memory' r (subst (λ (t : ℕ). Searches o lo hi start m root h t memory r m' memory') e s)
-    (subst (λ (z : List ℕ). InSpaceOf o z) ex al.1) (subst (λ (z : List ℕ). InSpaceOf o z) ey ah.1) total free)
+-- of each end of the box, as the code reads it
+pub inside_at : {o : Order} {p q : List ℕ} {a : ℕ} → p ≡ q → Inside o p a → InSpaceOf o q
+inside_at {o} e at = subst (λ (y : List ℕ). InSpaceOf o y) e at.inside
+
+pub outside_at : {o : Order} {p q : List ℕ} {f : Fault} → p ≡ q → LiesOutside o p f → LiesOutside o q f
+outside_at {o} {f = f} e at = subst (λ (y : List ℕ). LiesOutside o y f) e at
+
+pub searched_at : (o : Order) (m m' : Image) (h root total : ℕ) (free lo hi : List ℕ) {start most : ℕ} {memory memory' : List Find} {r : Found} → InSpaceOf o lo → InSpaceOf o hi →
+    most ≡ top o → Searches o lo hi start m root h most memory r m' memory' →
+    Step o (state m (knows h root total free)) (found (take r.count memory') r.reads (ending_of r.ending)) (state m' (knows h root total free)) (searches lo hi start (length memory))
+searched_at o m m' h root total free lo hi {start} {most} {memory} {memory'} {r} il ih e s =
+    search_steps_open o m m' h root start lo hi memory memory' r (subst (λ (t : ℕ). Searches o lo hi start m root h t memory r m' memory') e s) il ih total free

@@ -1,19 +1,21 @@
 -- The first questions, and tally, are steps.
-use Rattle.std.proofs.Common.{◌≡◌, ℕ, Bool, true, false, List, length, Ok, Err, Result, refl, ap, subst, inl, inr, arith}
+use Rattle.std.proofs.Common.{◌≡◌, ℕ, List, length, Some, None, Option, Ok, Err, Result, sym, refl, ap, subst, arith}
 use Rattle.pages.specs.Image.{Image}
-use Rattle.orders.specs.Orders.{Order, InSpaceOf}
+use Rattle.orders.specs.Orders.{Order}
 use Rattle.faults.specs.declared.fault.Fault.{Fault}
-use Rattle.faults.specs.declared.fault.Fault.TheVariants.{Outside}
+use Rattle.faults.specs.declared.fault.Fault.TheVariants.{Shut}
 use Rattle.paths.specs.PathsReading.{Misread, KeptAt}
 use Rattle.paths.specs.PathsReading.Misread.{refused as read_refused, broken}
 use Rattle.paths.specs.TallyRules.{Tallied, Tallies, TallyIs}
+use Rattle.records.specs.Free.{numbers}
+use Rattle.index.specs.declared.index.OpenTree.{OpenTree}
 use Rattle.index.specs.Model.{Call, Answer, State, Known, state, limit, refusal, told_count}
-use Rattle.index.specs.Model.Known.{shut, knows}
+use Rattle.index.specs.Model.Known.{knows}
 use Rattle.index.specs.Model.Call.{tallies}
 use Rattle.index.specs.Keeping.{Content, Filed, Kept, Holds, top}
 use Rattle.index.specs.Keeping.Content.{blank, filed}
-use Rattle.index.specs.View.{known_if}
-use Rattle.index.specs.Located.{Located, IsOpen}
+use Rattle.index.specs.View.{known_tree, known_in}
+use Rattle.index.specs.Located.{Inside, LiesOutside}
 use Rattle.index.specs.Changes.{tree_state}
 use Rattle.index.specs.Steps.{Step, Goes, Does, Names}
 use Rattle.index.specs.Steps.Does.{not_open, outside, tallied}
@@ -23,15 +25,26 @@ use Rattle.index.proofs.Changing.{knows_file, tree_kept}
 stays : (o : Order) (s : State) (a : Answer) (call : Call) → ((c : Content) → Does o c s a s c call) → Step o s a s call
 stays o s a call does = record { size = refl; exact = λ c kept. record { next = c; kept = kept; does = does c } }
 
-refused_outside : (o : Order) (m : Image) (k : Known) (x : List ℕ) (call : Call) (f : Fault) → Names x call → IsOpen k → (InSpaceOf o x → ⊥) → f ≡ Outside → Step o (state m k) (refusal f) (state m k) call
-refused_outside o m shut x call f names is out e = absurd is
-refused_outside o m (knows h r t free) x call f names is out e =
-    stays o _ (refusal f) call (λ c. outside x h r t free names refl out (ap refusal e) refl refl)
+-- an index that is open on the tree t
+pub from_tree : {o : Order} {m : Image} {x : Option OpenTree} {t : OpenTree} {a : Answer} {u : State} {call : Call} → x ≡ Some t →
+    Step o (state m (known_tree t)) a u call → Step o (state m (known_in x)) a u call
+from_tree {o} {m} {x} {t} {a} {u} {call} e step = subst (λ (y : Option OpenTree). Step o (state m (known_in y)) a u call) (sym e) step
 
--- 5 and 6
-pub located_refused : (o : Order) (m : Image) (k : Known) (x : List ℕ) (call : Call) (f : Fault) → Names x call → Located o k x (Err f) → Step o (state m k) (refusal f) (state m k) call
-located_refused o m k x call f names (inl h) = stays o (state m k) (refusal f) call (λ c. not_open x names h.0 (ap refusal h.1) refl refl)
-located_refused o m k x call f names (inr h) = refused_outside o m k x call f names h.0 h.1 h.2
+-- and stays so
+pub on_tree : {o : Order} {m m' : Image} {x : Option OpenTree} {t : OpenTree} {a : Answer} {call : Call} → x ≡ Some t →
+    Step o (state m (known_tree t)) a (state m' (known_tree t)) call → Step o (state m (known_in x)) a (state m' (known_in x)) call
+on_tree {o} {m} {m'} {x} {t} {a} {call} e step = subst (λ (y : Option OpenTree). Step o (state m (known_in y)) a (state m' (known_in y)) call) (sym e) step
+
+-- 5
+pub shut_refused : {o : Order} {m : Image} {x : Option OpenTree} {p : List ℕ} {call : Call} → x ≡ None → Names p call →
+    Step o (state m (known_in x)) (refusal Shut) (state m (known_in x)) call
+shut_refused {o} {m} {x} {p} {call} e names = stays o (state m (known_in x)) (refusal Shut) call (λ c. not_open p names (ap known_in e) refl refl refl)
+
+-- 6
+pub outside_refused : {o : Order} {m : Image} (t : OpenTree) {p : List ℕ} {call : Call} {f : Fault} → Names p call → LiesOutside o p f →
+    Step o (state m (known_tree t)) (refusal f) (state m (known_tree t)) call
+outside_refused {o} {m} t {p} {call} {f} names at =
+    stays o (state m (known_tree t)) (refusal f) call (λ c. outside p t.height t.root t.total (numbers t.free) names refl at.away (ap refusal at.told) refl refl)
 
 -- an index that is open has a tree on file, and the path functions find it kept
 pub open_file : (o : Order) (m : Image) (h r t : ℕ) (free : List ℕ) (f : Filed) → Holds o (state m (knows h r t free)) f →
@@ -60,24 +73,13 @@ pub open_steps : (o : Order) (m m' : Image) (h r t : ℕ) (free : List ℕ) (a :
     ((f : Filed) → Holds o (state m (knows h r t free)) f → Goes o (filed f) (state m (knows h r t free)) a (state m' k') call) → Step o (state m (knows h r t free)) a (state m' k') call
 open_steps o m m' h r t free a k' call size go = record { size = size; exact = λ c kept. open_goes o m h r t free a (state m' k') call c kept go }
 
-pub tally_steps : (o : Order) (m m' : Image) (h r t : ℕ) (free x : List ℕ) (a : ℕ) (res : Result ℕ Fault) → InSpaceOf o x → a ≡ o.address x → TallyIs m r h a res m' →
+pub tally_steps : (o : Order) (m m' : Image) (h r t : ℕ) (free x : List ℕ) (a : ℕ) (res : Result ℕ Fault) → Inside o x a → TallyIs m r h a res m' →
     Step o (state m (knows h r t free)) (told_count res) (state m' (knows h r t free)) (tallies x)
-tally_steps o m m' h r t free x a res inside e is =
+tally_steps o m m' h r t free x a res at is =
     let pages = tallied_pages m m' h r a res is.always in
     open_steps o m m' h r t free (told_count res) (knows h r t free) (tallies x) (ap length pages) (λ f holds. record {
       next = filed f;
       kept = same_pages o m m' (knows h r t free) (filed f) pages holds;
-      does = tallied f free res m' refl (knows_file (limit m) h r t free f holds.agrees) inside
-          (subst (λ (y : ℕ). Tallies m (tree_state f free) y res m') e (is.kept (limit m) f.total (top o) (tree_state f free) (open_file o m h r t free f holds))) refl refl refl;
+      does = tallied f free res m' refl (knows_file (limit m) h r t free f holds.agrees) at.inside
+          (subst (λ (y : ℕ). Tallies m (tree_state f free) y res m') at.address (is.kept (limit m) f.total (top o) (tree_state f free) (open_file o m h r t free f holds))) refl refl refl;
     })
-
--- an open index knows what it remembers
-pub remembers : (b : Bool) (h r t : ℕ) (free : List ℕ) → IsOpen (known_if b h r t free) → knows h r t free ≡ known_if b h r t free
-remembers true h r t free is = refl
-remembers false h r t free is = absurd is
-
-pub tally_steps_at : (o : Order) (m m' : Image) (b : Bool) (h r t : ℕ) (free x : List ℕ) (a : ℕ) (res : Result ℕ Fault) → Located o (known_if b h r t free) x (Ok a) → TallyIs m r h a res m' →
-    Step o (state m (known_if b h r t free)) (told_count res) (state m' (known_if b h r t free)) (tallies x)
-tally_steps_at o m m' b h r t free x a res at is =
-    subst (λ (k : Known). Step o (state m k) (told_count res) (state m' k) (tallies x)) (remembers b h r t free at.0)
-    (tally_steps o m m' h r t free x a res at.1 at.2 is)

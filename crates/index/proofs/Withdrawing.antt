@@ -1,5 +1,5 @@
 -- Withdraw is a step.
-use Rattle.std.proofs.Common.{◌≡◌, ℕ, ◌-◌, ◌≤◌, Bool, true, false, cond, eqb, List, [], Ok, Err, Result, sym, refl, ap, ◌∙◌, subst, arith}
+use Rattle.std.proofs.Common.{◌≡◌, ℕ, ◌-◌, ◌≤◌, true, false, cond, eqb, List, [], Ok, Err, Result, sym, refl, ap, ◌∙◌, subst, arith}
 use Rattle.pages.specs.Image.{Image, at}
 use Rattle.orders.specs.Orders.{Order}
 use Rattle.tree.specs.Tree.{Node, Held}
@@ -27,9 +27,8 @@ use Rattle.index.specs.Steps.Does.{withdrawn}
 use Rattle.index.proofs.Changing.{knows_file, tree_kept}
 use Rattle.index.proofs.Changed.{MadeCopy}
 use Rattle.index.proofs.Copying.{above_one, refused_step, copied_step}
-use Rattle.index.specs.View.{known_if}
-use Rattle.index.specs.Located.{Located}
-use Rattle.index.specs.Sealing.{Seals}
+use Rattle.index.specs.Located.{Inside}
+use Rattle.index.specs.Head.{WritesHead}
 use Rattle.index.proofs.Settling.{After}
 use Rattle.index.proofs.Tallying.{open_file}
 
@@ -62,21 +61,21 @@ module _ (o : Order) (m : Image) (h r t : ℕ) (free : List ℕ) (f : Filed) (ho
         counts = (greatest_law (contents m) (limit m) f.total (top o) st a 65535 kept_tree holds.counts).1;
       }
 
-module _ (o : Order) (m m' : Image) (b : Bool) (h r t : ℕ) (free x : List ℕ) (a : ℕ) (at : Located o (known_if b h r t free) x (Ok a)) where
+module _ (o : Order) (m m' : Image) (h r t : ℕ) (free x : List ℕ) (a : ℕ) (at : Inside o x a) where
   rule : (f : Filed) → Holds o (state m (knows h r t free)) f → (ans : Answer) (u : State) (v : Content) →
       Changes o (state m (knows h r t free)) f (Withdraws m (tree_state f free) (o.address x)) (withdraw_step (tree_state f free) (o.address x)).next (f.total - 1) ans u v →
       Does o (filed f) (state m (knows h r t free)) ans u v (withdraws x)
-  rule f holds ans u v changes = withdrawn f free refl (knows_file (limit m) h r t free f holds.agrees) at.1 changes
+  rule f holds ans u v changes = withdrawn f free refl (knows_file (limit m) h r t free f holds.agrees) at.inside changes
 
   -- what the copy is of a tree on file
   of_file : (res : Result Copied Fault) → WithdrawIs m r h a free res m' → (f : Filed) → Holds o (state m (knows h r t free)) f → Withdraws m (tree_state f free) (o.address x) res m'
   of_file res is f holds =
       let low : h ≤ 6 = subst (λ (n : ℕ). n ≤ 6) (sym holds.agrees.0) holds.low in
-      subst (λ (y : ℕ). Withdraws m (tree_state f free) y res m') at.2 (is.kept (limit m) f.total (top o) (tree_state f free) (open_file o m h r t free f holds) refl low)
+      subst (λ (y : ℕ). Withdraws m (tree_state f free) y res m') at.address (is.kept (limit m) f.total (top o) (tree_state f free) (open_file o m h r t free f holds) refl low)
 
-  pub withdraw_refused : (fault : Fault) → WithdrawIs m r h a free (Err fault) m' → Step o (state m (known_if b h r t free)) (refusal fault) (state m' (known_if b h r t free)) (withdraws x)
+  pub withdraw_refused : (fault : Fault) → WithdrawIs m r h a free (Err fault) m' → Step o (state m (knows h r t free)) (refusal fault) (state m' (knows h r t free)) (withdraws x)
   withdraw_refused fault is =
-      refused_step o m b h r t free (withdraws x) at.0 (λ f. Withdraws m (tree_state f free) (o.address x)) (λ f. (withdraw_step (tree_state f free) (o.address x)).next) (λ f. f.total - 1) rule
+      refused_step o m h r t free (withdraws x) (λ f. Withdraws m (tree_state f free) (o.address x)) (λ f. (withdraw_step (tree_state f free) (o.address x)).next) (λ f. f.total - 1) rule
       fault m' is.alone.size (λ f holds.
       let w = of_file (Err fault) is f holds in (
         w,
@@ -84,12 +83,12 @@ module _ (o : Order) (m m' : Image) (b : Bool) (h r t : ℕ) (free x : List ℕ)
         withdraw_keeps_old m m' (limit m) f.total (top o) (tree_state f free) (o.address x) fault (kept_tree o m h r t free f holds) holds.low w,
       ))
 
-  pub withdraw_copied : (g : Copied) (m'' : Image) (free' : List ℕ) (sum : ℕ) (res : Result (Unit {0}) Fault) (k' : Known) → WithdrawIs m r h a free (Ok g) m' → sum ≡ t - 1 →
-      Seals o m' free h g.height g.root sum g.used g.path res m'' free' → After res (knows h r t free) g sum free' k' →
-      Step o (state m (known_if b h r t free)) (told res) (state m'' k') (withdraws x)
-  withdraw_copied g m'' free' sum res k' is es seals after =
-      copied_step o m b h r t free (withdraws x) at.0 (λ f. Withdraws m (tree_state f free) (o.address x)) (λ f. (withdraw_step (tree_state f free) (o.address x)).next) (λ f. f.total - 1) rule
-      g m' m'' free' sum res k' is.alone.size (λ f holds.
+  pub withdraw_copied : (g : Copied) (m'' : Image) (sum : ℕ) (res : Result (Unit {0}) Fault) (k' : Known) → WithdrawIs m r h a free (Ok g) m' → sum ≡ t - 1 →
+      WritesHead o m' g.height g.root sum res m'' → After res h free (knows h r t free) g sum k' →
+      Step o (state m (knows h r t free)) (told res) (state m'' k') (withdraws x)
+  withdraw_copied g m'' sum res k' is es head after =
+      copied_step o m h r t free (withdraws x) (λ f. Withdraws m (tree_state f free) (o.address x)) (λ f. (withdraw_step (tree_state f free) (o.address x)).next) (λ f. f.total - 1) rule
+      g m' m'' sum res k' is.alone.size (λ f holds.
       let w = of_file (Ok g) is f holds in
       (w, made_withdrawal o m h r t free f holds (o.address x) g m' w is.alone, es ∙ ap (λ (n : ℕ). n - 1) holds.agrees.2))
-      seals after
+      head after

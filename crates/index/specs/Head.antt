@@ -1,5 +1,5 @@
--- What reading the header answers: the questions 8 to 11 of an opening, by the bytes of page 1.
-use Rattle.std.specs.Prelude.{◌≡◌, ◌<◌, ◌≤◌, [], length, Ok, Err, Result, ◌≢◌}
+-- What reading the header answers, the questions 8 to 11 of an opening, by the bytes of page 1; and what writing it does.
+use Rattle.std.specs.Prelude.{◌≡◌, ℕ, ◌<◌, ◌≤◌, [], length, Ok, Err, Result, ◌≢◌}
 use Rattle.pages.specs.Image.{Image, at, spent}
 use Rattle.layout.specs.declared.header.Header.{Header}
 use Rattle.layout.specs.Heads.{header_bytes, Proper}
@@ -7,6 +7,7 @@ use Rattle.orders.specs.Orders.{Order}
 use Rattle.faults.specs.declared.fault.Access.{Access}
 use Rattle.faults.specs.declared.fault.Fault.{Fault}
 use Rattle.faults.specs.declared.fault.Fault.TheVariants.{NoHeader, OtherOrder}
+use Rattle.faults.specs.Accesses.{Stores}
 use Rattle.faults.specs.Refusals.{unread}
 use Rattle.pages.specs.Image.{Reads}
 use Rattle.index.specs.Keeping.{Ours}
@@ -28,6 +29,20 @@ pub data NoHead (o : Order) (m : Image) (f : Fault) (m' : Image) : Type 0 where
   none : f ≡ NoHeader → Got m m' → ((h : Header) → Proper h → at m 1 ≢ header_bytes h) → NoHead o m f m'
   other : (h : Header) → f ≡ OtherOrder → Got m m' → Says m h → (Ours o h → ⊥) → NoHead o m f m'
 
+-- a header of this order was read
+pub record Head (o : Order) (m : Image) (h : Header) (m' : Image) : Type 0 where
+  pub got : Got m m'
+  pub says : Says m h
+  pub ours : Ours o h
+
 abbrev pub ReadsHead : Order → Image → Result Header Fault → Image → Type 0
-ReadsHead o m (Ok h) m' = Got m m' × Says m h × Ours o h
+ReadsHead o m (Ok h) m' = Head o m h m'
 ReadsHead o m (Err f) m' = NoHead o m f m'
+
+-- a header of this order
+abbrev pub header_with : Order → ℕ → ℕ → ℕ → Header
+header_with o height root total = record { kind = o.kind; n = o.n; p = o.p; height = height; root = root; total = total }
+
+-- page 1 is written with it, or the refusal says so
+abbrev pub WritesHead : Order → Image → ℕ → ℕ → ℕ → Result (Unit {0}) Fault → Image → Type 0
+WritesHead o m height root total r m' = Stores m 1 0 (header_bytes (header_with o height root total)) r m'

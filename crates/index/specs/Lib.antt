@@ -2,7 +2,6 @@ pub mod Model
 pub mod Keeping
 pub mod View
 pub mod Freed
-pub mod Sealing
 pub mod Settled
 pub mod Head
 pub mod Located

@@ -1,19 +1,20 @@
--- An index after the end of a change: what it remembers is the new tree's where the header was written, and stays otherwise.
-use Rattle.std.specs.Prelude.{◌≡◌, ℕ, Ok, Err, Result}
-use Rattle.pages.specs.Image.{Image}
-use Rattle.orders.specs.Orders.{Order}
+-- The end of a change of the tree: the header of the copied tree is written, and only then the index remembers the new tree.
+use Rattle.std.specs.Prelude.{◌≡◌, ℕ, drop, Ok, Err, Result}
 use Rattle.records.specs.Free.{numbers}
 use Rattle.faults.specs.declared.fault.Fault.{Fault}
 use Rattle.paths.specs.declared.copied.Copied.{Copied}
-use Rattle.index.specs.declared.index.Index.{Index}
-use Rattle.index.specs.Sealing.{Seals}
+use Rattle.index.specs.declared.index.OpenTree.{OpenTree}
+use Rattle.index.specs.Freed.{GivenBack}
 
-abbrev pub Remembers : {S O : Type 0} → Index S O → Copied → ℕ → Result (Unit {0}) Fault → Index S O → Type 0
-Remembers x g total (Ok u) y = (y.height ≡ g.height) × (y.root ≡ g.root) × (y.total ≡ total)
-Remembers x g total (Err f) y = (y.height ≡ x.height) × (y.root ≡ x.root) × (y.total ≡ x.total)
+-- the new tree, after the copy g of the tree t
+pub record Renewed (t : OpenTree) (g : Copied) (sum : ℕ) (t' : OpenTree) : Type 0 where
+  pub height : t'.height ≡ g.height
+  pub root : t'.root ≡ g.root
+  pub total : t'.total ≡ sum
+  -- the free list has lost what the copy used and has the old path at its front
+  pub free : GivenBack g.path t.height (drop g.used (numbers t.free)) (numbers t'.free)
 
-pub record Settles {S O : Type 0} (o : Order) (meaning : S → Image) (x : Index S O) (g : Copied) (total : ℕ) (r : Result (Unit {0}) Fault) (y : Index S O) : Type 0 where
-  pub seals : Seals o (meaning x.store) (numbers x.free) x.height g.height g.root total g.used g.path r (meaning y.store) (numbers y.free)
-  pub remembers : Remembers x g total r y
-  pub is_open : y.is_open ≡ x.is_open
-  pub order : y.order ≡ x.order
+-- where the write of page 1 is refused, nothing changes
+abbrev pub Renews : OpenTree → Copied → ℕ → Result (Unit {0}) Fault → OpenTree → Type 0
+Renews t g total (Ok u) t' = Renewed t g total t'
+Renews t g total (Err f) t' = t' ≡ t

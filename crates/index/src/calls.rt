@@ -7,11 +7,9 @@ ghost use Rattle.index.specs.Model.Call.{formats, shuts, grants};
 ghost use Rattle.index.specs.Steps.{Step};
 ghost use Rattle.index.specs.View.{view};
 
-use crate::index::Index;
-use faults::access::put;
+use crate::head::write_head;
+use crate::index::{Index, OpenTree};
 use faults::fault::Fault;
-use layout::header::{Header, write_header};
-use layout::page_ref::HEADER;
 use orders::order::PointOrder;
 use pages::store::PageStore;
 use records::free::FreeList;
@@ -26,11 +24,7 @@ impl<S: PageStore, O: PointOrder> Index<S, O> {
         Index {
             store,
             order,
-            is_open: false,
-            height: 0,
-            root: 0,
-            total: 0,
-            free: FreeList::none(),
+            tree: None,
         }
     }
 
@@ -40,22 +34,13 @@ impl<S: PageStore, O: PointOrder> Index<S, O> {
         ensures order { self.new.order ≡ self.old.order }
     {
         let last = last_usable(self.store.size());
-        let header = Header {
-            kind: self.order.kind(),
-            n: self.order.n(),
-            p: self.order.p(),
+        write_head(&mut self.store, &self.order, 0, 0, 0)?;
+        self.tree = Some(OpenTree {
             height: 0,
             root: 0,
             total: 0,
-        };
-        let mut page = [0; 128];
-        write_header(&mut page, header);
-        put(&mut self.store, HEADER, &page)?;
-        self.free = FreeList::rising(2, last, &[false; 1026]);
-        self.height = 0;
-        self.root = 0;
-        self.total = 0;
-        self.is_open = true;
+            free: FreeList::rising(2, last, &[false; 1026]),
+        });
         Ok(())
     }
 
@@ -64,7 +49,7 @@ impl<S: PageStore, O: PointOrder> Index<S, O> {
         ensures step { Step (O.PointOrder.meaning self.old.order) (view S.PageStore.meaning self.old) accepted (view S.PageStore.meaning self.new) shuts }
         ensures order { self.new.order ≡ self.old.order }
     {
-        self.is_open = false;
+        self.tree = None;
     }
 
     // Sets the store's charge: the number of page accesses that the cell carries.

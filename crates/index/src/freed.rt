@@ -9,17 +9,17 @@ use records::free::FreeList;
 pub(crate) fn take_used(free: &mut FreeList, used: usize)
     ensures { numbers free.new ≡ drop used (numbers free.old) }
 {
-    for i in 0..used {
+    for _ in 0..used {
         let _ = free.take_front();
     }
 }
 
 // Puts the old path's pages to the front, the leaf's first.
 pub(crate) fn give_back(free: &mut FreeList, path: &[u16; 6], height: u8)
-    requires { height ≤ 6 }
     ensures { GivenBack path.now height (numbers free.old) (numbers free.new) }
 {
-    for i in 0..height {
-        let _ = free.put_front(path[i as usize]);
+    let levels = path.len().min(height as usize);
+    for page in &path[..levels] {
+        let _ = free.put_front(*page);
     }
 }

@@ -1,12 +1,12 @@
-// Reading the header.
+// Reading and writing the header.
 ghost use Rattle.std.specs.Prelude.{◌≡◌, ◌-◌, ◌<◌, Decides};
 ghost use Rattle.orders.specs.Orders.{size};
-ghost use Rattle.index.specs.Head.{ReadsHead};
+ghost use Rattle.index.specs.Head.{ReadsHead, WritesHead};
 ghost use Rattle.index.specs.Keeping.{Ours, top};
 
-use faults::access::fetch;
+use faults::access::{fetch, put};
 use faults::fault::Fault;
-use layout::header::{Header, read_header};
+use layout::header::{Header, read_header, write_header};
 use layout::page_ref::HEADER;
 use orders::order::PointOrder;
 use pages::store::PageStore;
@@ -27,13 +27,34 @@ pub(crate) fn read_head<S: PageStore, O: PointOrder>(
 {
     let mut page = [0; 128];
     fetch(store, HEADER, &mut page)?;
-    let Some(header) = read_header(&page) else {
-        return Err(Fault::NoHeader);
-    };
+    let header = read_header(&page).ok_or(Fault::NoHeader)?;
     if !is_ours(order, &header) {
         return Err(Fault::OtherOrder);
     }
     Ok(header)
+}
+
+// Writes page 1: the header of a tree of this order, at this height and root, with so many events.
+pub(crate) fn write_head<S: PageStore, O: PointOrder>(
+    store: &mut S,
+    order: &O,
+    height: u8,
+    root: u16,
+    total: u32,
+) -> Result<(), Fault>
+    ensures { WritesHead (O.PointOrder.meaning order.now) (S.PageStore.meaning store.old) height root total result (S.PageStore.meaning store.new) }
+{
+    let header = Header {
+        kind: order.kind(),
+        n: order.n(),
+        p: order.p(),
+        height,
+        root,
+        total,
+    };
+    let mut page = [0; 128];
+    write_header(&mut page, header);
+    put(store, HEADER, &page)
 }
 
 // The greatest address.

@@ -10,7 +10,6 @@ mod located;
 pub mod lodge;
 pub mod open;
 pub mod parts;
-mod sealing;
 pub mod search;
 mod settled;
 pub mod tally;

@@ -6,6 +6,7 @@ ghost use Rattle.index.specs.Steps.{Step};
 ghost use Rattle.index.specs.View.{view};
 
 use crate::index::Index;
+use crate::located::located;
 use faults::fault::Fault;
 use orders::order::PointOrder;
 use orders::point::Point;
@@ -18,15 +19,12 @@ impl<S: PageStore, O: PointOrder> Index<S, O> {
         ensures step { Step (O.PointOrder.meaning self.old.order) (view S.PageStore.meaning self.old) (told result) (view S.PageStore.meaning self.new) (lodges x.coords) }
         ensures order { self.new.order ≡ self.old.order }
     {
-        let address = match self.located(x) {
-            Ok(address) => address,
-            Err(fault) => return Err(fault),
+        let Some(tree) = &mut self.tree else {
+            return Err(Fault::Shut);
         };
-        let copied = match lodge(&mut self.store, self.root, self.height, address, &self.free) {
-            Ok(copied) => copied,
-            Err(fault) => return Err(fault),
-        };
-        let total = self.total.saturating_add(1);
-        self.settle(copied, total)
+        let address = located(&self.order, x)?;
+        let copied = lodge(&mut self.store, tree.root, tree.height, address, &tree.free)?;
+        let total = tree.total.saturating_add(1);
+        tree.settle(&mut self.store, &self.order, copied, total)
     }
 }

@@ -7,7 +7,7 @@ ghost use Rattle.index.specs.Steps.{Step};
 ghost use Rattle.index.specs.View.{view};
 
 use crate::head::{read_head, top_of};
-use crate::index::Index;
+use crate::index::{Index, OpenTree};
 use faults::fault::Fault;
 use orders::order::PointOrder;
 use pages::store::PageStore;
@@ -24,18 +24,15 @@ impl<S: PageStore, O: PointOrder> Index<S, O> {
         ensures image { Opening (O.PointOrder.meaning self.old.order) (view S.PageStore.meaning self.old) (length work.old) (told result) (view S.PageStore.meaning self.new) }
         ensures order { self.new.order ≡ self.old.order }
     {
-        self.is_open = false;
+        self.tree = None;
         if work.len() < 64 {
             return Err(Fault::Work);
         }
-        let header = match read_head(&mut self.store, &self.order) {
-            Ok(header) => header,
-            Err(fault) => return Err(fault),
-        };
+        let header = read_head(&mut self.store, &self.order)?;
         let last = last_usable(self.store.size());
         let top = top_of(&self.order);
         let mut marks = [false; 1026];
-        match scan(
+        scan(
             &mut self.store,
             last,
             header.height,
@@ -44,15 +41,13 @@ impl<S: PageStore, O: PointOrder> Index<S, O> {
             top,
             work,
             &mut marks,
-        ) {
-            Ok(()) => {}
-            Err(fault) => return Err(fault),
-        }
-        self.free = FreeList::rising(2, last, &marks);
-        self.height = header.height;
-        self.root = header.root;
-        self.total = header.total;
-        self.is_open = true;
+        )?;
+        self.tree = Some(OpenTree {
+            height: header.height,
+            root: header.root,
+            total: header.total,
+            free: FreeList::rising(2, last, &marks),
+        });
         Ok(())
     }
 }

@@ -11,15 +11,7 @@ impl<S: PageStore, O: PointOrder> Index<S, O> {
         ensures store { result.0 ≡ self.store }
         ensures order { result.1 ≡ self.order }
     {
-        let Index {
-            store,
-            order,
-            is_open: _,
-            height: _,
-            root: _,
-            total: _,
-            free: _,
-        } = self;
+        let Index { store, order, .. } = self;
         (store, order)
     }
 }

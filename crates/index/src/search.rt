@@ -10,6 +10,7 @@ ghost use Rattle.index.specs.View.{view};
 
 use crate::head::top_of;
 use crate::index::Index;
+use crate::located::located;
 use faults::fault::Fault;
 use orders::order::PointOrder;
 use orders::space::QueryBox;
@@ -51,20 +52,19 @@ impl<S: PageStore, O: PointOrder> Index<S, O> {
         ensures lent { Lends result memory.old memory.new }
         ensures order { self.new.order ≡ self.old.order }
     {
-        if let Err(fault) = self.located(query.low()) {
-            return Err(fault);
-        }
-        if let Err(fault) = self.located(query.high()) {
-            return Err(fault);
-        }
+        let Some(tree) = &self.tree else {
+            return Err(Fault::Shut);
+        };
+        located(&self.order, query.low())?;
+        located(&self.order, query.high())?;
         let top = top_of(&self.order);
         Ok(search(
             &mut self.store,
             &self.order,
             query,
             start,
-            self.root,
-            self.height,
+            tree.root,
+            tree.height,
             top,
             memory,
         ))

@@ -1,41 +1,32 @@
-// The end of a change, in the index.
-ghost use Rattle.std.specs.Prelude.{◌≡◌};
-ghost use Rattle.index.specs.Settled.{Settles};
+// The end of a change of the tree.
+ghost use Rattle.index.specs.Head.{WritesHead};
+ghost use Rattle.index.specs.Settled.{Renews};
 
-use crate::index::Index;
-use crate::sealing::seal;
+use crate::freed::{give_back, take_used};
+use crate::head::write_head;
+use crate::index::OpenTree;
 use faults::fault::Fault;
 use orders::order::PointOrder;
 use pages::store::PageStore;
 use paths::copied::Copied;
 
-impl<S: PageStore, O: PointOrder> Index<S, O> {
-    // Writes the header of the copied tree; then the free list and what the index remembers are the new tree's.
-    pub(crate) fn settle(&mut self, copied: Copied, total: u32) -> Result<(), Fault>
-        ensures { Settles (O.PointOrder.meaning self.old.order) S.PageStore.meaning self.old copied total result self.new }
+impl OpenTree {
+    // Writes the header of the copied tree; then the pages that the copy used are no longer free, the old path's pages are, and the tree is the new one.
+    pub(crate) fn settle<S: PageStore, O: PointOrder>(
+        &mut self,
+        store: &mut S,
+        order: &O,
+        copied: Copied,
+        total: u32,
+    ) -> Result<(), Fault>
+        ensures header { WritesHead (O.PointOrder.meaning order.now) (S.PageStore.meaning store.old) copied.height copied.root total result (S.PageStore.meaning store.new) }
+        ensures tree { Renews self.old copied total result self.new }
     {
-        let Copied {
-            root,
-            height,
-            used,
-            path,
-        } = copied;
-        match seal(
-            &mut self.store,
-            &self.order,
-            &mut self.free,
-            self.height,
-            height,
-            root,
-            total,
-            used,
-            &path,
-        ) {
-            Ok(()) => {}
-            Err(fault) => return Err(fault),
-        }
-        self.height = height;
-        self.root = root;
+        write_head(store, order, copied.height, copied.root, total)?;
+        take_used(&mut self.free, copied.used);
+        give_back(&mut self.free, &copied.path, self.height);
+        self.height = copied.height;
+        self.root = copied.root;
         self.total = total;
         Ok(())
     }

@@ -6,6 +6,7 @@ ghost use Rattle.index.specs.Steps.{Step};
 ghost use Rattle.index.specs.View.{view};
 
 use crate::index::Index;
+use crate::located::located;
 use faults::fault::Fault;
 use orders::order::PointOrder;
 use orders::point::Point;
@@ -18,10 +19,10 @@ impl<S: PageStore, O: PointOrder> Index<S, O> {
         ensures step { Step (O.PointOrder.meaning self.old.order) (view S.PageStore.meaning self.old) (told_count result) (view S.PageStore.meaning self.new) (tallies x.coords) }
         ensures order { self.new.order ≡ self.old.order }
     {
-        let address = match self.located(x) {
-            Ok(address) => address,
-            Err(fault) => return Err(fault),
+        let Some(tree) = &self.tree else {
+            return Err(Fault::Shut);
         };
-        tally(&mut self.store, self.root, self.height, address)
+        let address = located(&self.order, x)?;
+        tally(&mut self.store, tree.root, tree.height, address)
     }
 }

@@ -6,6 +6,7 @@ ghost use Rattle.index.specs.Steps.{Step};
 ghost use Rattle.index.specs.View.{view};
 
 use crate::index::Index;
+use crate::located::located;
 use faults::fault::Fault;
 use orders::order::PointOrder;
 use orders::point::Point;
@@ -19,15 +20,12 @@ impl<S: PageStore, O: PointOrder> Index<S, O> {
         ensures step { Step (O.PointOrder.meaning self.old.order) (view S.PageStore.meaning self.old) (told result) (view S.PageStore.meaning self.new) (withdraws x.coords) }
         ensures order { self.new.order ≡ self.old.order }
     {
-        let address = match self.located(x) {
-            Ok(address) => address,
-            Err(fault) => return Err(fault),
+        let Some(tree) = &mut self.tree else {
+            return Err(Fault::Shut);
         };
-        let copied = match withdraw(&mut self.store, self.root, self.height, address, &self.free) {
-            Ok(copied) => copied,
-            Err(fault) => return Err(fault),
-        };
-        let total = self.total.saturating_sub(1);
-        self.settle(copied, total)
+        let address = located(&self.order, x)?;
+        let copied = withdraw(&mut self.store, tree.root, tree.height, address, &tree.free)?;
+        let total = tree.total.saturating_sub(1);
+        tree.settle(&mut self.store, &self.order, copied, total)
     }
 }

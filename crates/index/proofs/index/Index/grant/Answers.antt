@@ -1,13 +1,5 @@
-use Rattle.std.proofs.Common.{refl}
-use Rattle.index.specs.View.{view}
 use Rattle.index.proofs.Resets.{grants_charge}
 use Rattle.index.proofs.index.Index.grant.Goals as goal
 
-pub returns : goal.returns
-returns g c =
-    let x = c.args.self.now in
-    let mean = g.S.PageStore.meaning in
-    record {
-      step = grants_charge (g.O.PointOrder.meaning x.order) (mean x.store) (mean c.grant.new.self) (view mean x).known c.args.charge c.grant.ensures;
-      order = refl;
-    }
+pub returns-clause-step : goal.returns-clause-step
+returns-clause-step g c = grants_charge _ _ _ _ _ c.grant.ensures

@@ -1,9 +1,5 @@
-use Rattle.std.proofs.Common.{refl}
-use Rattle.index.specs.View.{view}
 use Rattle.index.proofs.Resets.{shuts_down}
 use Rattle.index.proofs.index.Index.shut.Goals as goal
 
-pub returns : goal.returns
-returns g c =
-    let x = c.args.self.now in
-    record { step = shuts_down (g.O.PointOrder.meaning x.order) (g.S.PageStore.meaning x.store) (view g.S.PageStore.meaning x).known; order = refl }
+pub returns-clause-step : goal.returns-clause-step
+returns-clause-step g c = shuts_down _ _ _

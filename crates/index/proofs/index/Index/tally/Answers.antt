@@ -1,26 +1,18 @@
-use Rattle.std.proofs.Common.{refl}
+use Rattle.std.proofs.lemmas.Result.{err_from_is_err_and}
 use Rattle.records.specs.Free.{numbers}
-use Rattle.index.specs.Model.Call.{tallies}
 use Rattle.index.specs.Steps.Names.{tallying}
-use Rattle.index.specs.View.{view}
-use Rattle.index.proofs.Tallying.{located_refused, tally_steps_at}
+use Rattle.index.proofs.Tallying.{shut_refused, outside_refused, on_tree, tally_steps}
 use Rattle.index.proofs.index.Index.tally.Goals as goal
 
-pub returns-in-Err : goal.returns-in-Err
-returns-in-Err g c =
-    let x = c.args.self.now in
-    let mean = g.S.PageStore.meaning in
-    record {
-      step = located_refused (g.O.PointOrder.meaning x.order) (mean x.store) (view mean x).known c.args.x.coords (tallies c.args.x.coords) c.in-Err.fault tallying c.in-Err.ensures;
-      order = refl;
-    }
+pub returns-in_default-clause-step : goal.returns-in_default-clause-step
+returns-in_default-clause-step g c = shut_refused c.in_default.is tallying
 
-pub returns : goal.returns
-returns g c =
-    let x = c.args.self.now in
-    let mean = g.S.PageStore.meaning in
-    record {
-      step = tally_steps_at (g.O.PointOrder.meaning x.order) (mean x.store) (mean c.tally.new.store) x.is_open x.height x.root x.total (numbers x.free) c.args.x.coords
-          c.in-Ok.address c.tally.result c.in-Ok.ensures c.tally.ensures;
-      order = refl;
-    }
+pub returns-in_err-address-clause-step : goal.returns-in_err-address-clause-step
+returns-in_err-address-clause-step g c =
+    let p = err_from_is_err_and c.from_residual.result c.from_residual.ensures.1 in
+    rw (p.1, p.2) (on_tree c.in-Some.is (outside_refused c.in-Some.tree tallying c.in_err-address.ensures))
+
+pub returns-clause-step : goal.returns-clause-step
+returns-clause-step g c =
+    let t = c.in-Some.tree in
+    on_tree c.in-Some.is (tally_steps _ _ _ t.height t.root t.total (numbers t.free) _ _ _ c.in_ok-address.ensures c.tally.ensures)

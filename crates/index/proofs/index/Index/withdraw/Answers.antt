@@ -1,42 +1,28 @@
-use Rattle.std.proofs.Common.{refl}
+use Rattle.std.proofs.lemmas.Result.{err_from_is_err_and}
 use Rattle.records.specs.Free.{numbers}
-use Rattle.index.specs.Model.Call.{withdraws}
 use Rattle.index.specs.Steps.Names.{withdrawing}
-use Rattle.index.specs.View.{view}
 use Rattle.index.proofs.Settling.{after_known}
-use Rattle.index.proofs.Tallying.{located_refused}
+use Rattle.index.proofs.Tallying.{shut_refused, outside_refused, from_tree}
 use Rattle.index.proofs.Withdrawing.{withdraw_refused, withdraw_copied}
 use Rattle.index.proofs.index.Index.withdraw.Goals as goal
 
-pub returns-in-Err : goal.returns-in-Err
-returns-in-Err g c =
-    let x = c.args.self.now in
-    let mean = g.S.PageStore.meaning in
-    record {
-      step = located_refused (g.O.PointOrder.meaning x.order) (mean x.store) (view mean x).known c.args.x.coords (withdraws c.args.x.coords) c.in-Err.fault withdrawing c.in-Err.ensures;
-      order = refl;
-    }
+pub returns-in_default-clause-step : goal.returns-in_default-clause-step
+returns-in_default-clause-step g c = shut_refused c.in_default.is withdrawing
 
-pub returns-in-Err-withdraw : goal.returns-in-Err-withdraw
-returns-in-Err-withdraw g c =
-    let x = c.args.self.now in
-    let mean = g.S.PageStore.meaning in
-    record {
-      step = withdraw_refused (g.O.PointOrder.meaning x.order) (mean x.store) (mean c.withdraw.new.store) x.is_open x.height x.root x.total (numbers x.free)
-          c.args.x.coords c.in-Ok.address c.in-Ok.ensures c.in-Err-withdraw.fault c.in-Err-withdraw.ensures;
-      order = refl;
-    }
+pub returns-in_err-address-clause-step : goal.returns-in_err-address-clause-step
+returns-in_err-address-clause-step g c =
+    let p = err_from_is_err_and c.from_residual.result c.from_residual.ensures.1 in
+    rw (p.1, p.2) (from_tree c.in-Some.is (outside_refused c.in-Some.tree withdrawing c.in_err-address.ensures))
 
-pub returns : goal.returns
-returns g c =
-    let x = c.args.self.now in
-    let y = c.settle.new.self in
-    let mean = g.S.PageStore.meaning in
-    let o = g.O.PointOrder.meaning x.order in
-    record {
-      step = withdraw_copied o (mean x.store) (mean c.withdraw.new.store) x.is_open x.height x.root x.total (numbers x.free)
-          c.args.x.coords c.in-Ok.address c.in-Ok.ensures c.in-Ok-withdraw.copied (mean y.store) (numbers y.free) c.saturating_sub-total.result c.settle.result (view mean y).known
-          c.in-Ok-withdraw.ensures c.saturating_sub-total.ensures c.settle.ensures.seals
-          (after_known o mean _ y c.in-Ok-withdraw.copied c.saturating_sub-total.result c.settle.result c.settle.ensures c.in-Ok.ensures.0);
-      order = c.settle.ensures.order;
-    }
+pub returns-in_err-copied-clause-step : goal.returns-in_err-copied-clause-step
+returns-in_err-copied-clause-step g c =
+    let t = c.in-Some.tree in
+    let p = err_from_is_err_and c.from_residual-in_err-copied.result c.from_residual-in_err-copied.ensures.1 in
+    rw (p.1, p.2) (from_tree c.in-Some.is (withdraw_refused _ _ _ t.height t.root t.total (numbers t.free) _ _ c.in_ok-address.ensures _ c.in_err-copied.ensures))
+
+pub returns-clause-step : goal.returns-clause-step
+returns-clause-step g c =
+    let t = c.in-Some.tree in
+    from_tree c.in-Some.is
+    (withdraw_copied _ _ _ t.height t.root t.total (numbers t.free) _ _ c.in_ok-address.ensures _ _ _ _ _ c.in_ok-copied.ensures c.saturating_sub-total.ensures
+    c.settle.ensures.header (after_known t c.settle.new.self _ _ _ c.settle.ensures.tree))
