@@ -11,10 +11,12 @@ ghost use Rattle.index.specs.View.{view};
 use crate::head::top_of;
 use crate::index::Index;
 use faults::fault::Fault;
+use layout::page_ref::PageRef;
 use orders::order::PointOrder;
 use orders::space::QueryBox;
 use pages::store::PageStore;
 use searches::find::{Find, Found};
+use searches::request::Request;
 use searches::search::search;
 
 impl<S: PageStore, O: PointOrder> Index<S, O> {
@@ -58,15 +60,15 @@ impl<S: PageStore, O: PointOrder> Index<S, O> {
             return Err(fault);
         }
         let top = top_of(&self.order);
-        Ok(search(
-            &mut self.store,
-            &self.order,
+        let root = PageRef {
+            page: self.root,
+            level: self.height,
+        };
+        let request = Request {
+            order: &self.order,
             query,
             start,
-            self.root,
-            self.height,
-            top,
-            memory,
-        ))
+        };
+        Ok(search(&mut self.store, &request, root, top, memory))
     }
 }
