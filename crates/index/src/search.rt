@@ -12,10 +12,12 @@ use crate::head::top_of;
 use crate::index::Index;
 use crate::located::located;
 use faults::fault::Fault;
+use layout::page_ref::PageRef;
 use orders::order::PointOrder;
 use orders::space::QueryBox;
 use pages::store::PageStore;
 use searches::find::{Find, Found};
+use searches::request::Request;
 use searches::search::search;
 
 impl<S: PageStore, O: PointOrder> Index<S, O> {
@@ -58,15 +60,15 @@ impl<S: PageStore, O: PointOrder> Index<S, O> {
         located(&self.order, query.low())?;
         located(&self.order, query.high())?;
         let top = top_of(&self.order);
-        Ok(search(
-            &mut self.store,
-            &self.order,
+        let root = PageRef {
+            page: tree.root,
+            level: tree.height,
+        };
+        let request = Request {
+            order: &self.order,
             query,
             start,
-            tree.root,
-            tree.height,
-            top,
-            memory,
-        ))
+        };
+        Ok(search(&mut self.store, &request, root, top, memory))
     }
 }

@@ -2,13 +2,12 @@
 use Rattle.std.proofs.Common.{◌≡◌, ℕ, zero, suc, ◌-◌, ◌<◌, ◌≤◌, Bool, true, ◌&&◌, List, get_or, Some, None, Decides, Option, arith, ltb-true, lt-ltb, le-leb, leb-true}
 use Rattle.std.proofs.lemmas.Bool.{and_parts}
 use Rattle.orders.specs.Spaces.{Within}
-use Rattle.orders.specs.Orders.{Order, InBox, InSpaceOf, FirstIs, size}
+use Rattle.orders.specs.Orders.{Order, InBox, InSpaceOf, size}
 use Rattle.tree.specs.SearchSteps.{from, first, Hit, Least}
 use Rattle.tree.proofs.SearchTests.{from_inside, from_start, from_is}
 use Rattle.tree.proofs.SearchFirst.{first_least}
 use Rattle.searches.specs.Inside.{between, inside}
-use Rattle.searches.specs.Finds.{Tests}
-use Rattle.searches.specs.Walking.{Asks}
+use Rattle.searches.specs.Sought.{Sought, Tests, Asks, FirstFrom}
 
 both : (s t : Bool) → s ≡ true → t ≡ true → (s && t) ≡ true
 both s t e f = rw (e, f)
@@ -46,29 +45,34 @@ inside_decides o lo hi a = (
       both _ _ (lt-ltb a (size o) h.0) (both _ _ (w 0 (omega arith)) (both _ _ (w 1 (omega arith)) (both _ _ (w 2 (omega arith)) (w 3 (omega arith)))))),
 )
 
--- and from a start on, what the search wants
-pub wanted_tests : (o : Order) (lo hi : List ℕ) (start : ℕ) → Tests o lo hi start (from (inside o lo hi) start)
-wanted_tests o lo hi start a = (
-  λ e. ((inside_decides o lo hi a).0 (from_inside (inside o lo hi) start a e), from_start (inside o lo hi) start a e),
-  λ h. from_is (inside o lo hi) start a ((inside_decides o lo hi a).1 h.0) h.1,
-)
+module _ (q : Sought) where
+  -- the test of the box
+  abbrev pub in_box : ℕ → Bool
+  in_box = inside q.order q.low q.high
 
--- the first address of the box up to the greatest, by the test
-abbrev pub asked : Order → List ℕ → List ℕ → ℕ → Option ℕ
-asked o lo hi b = first (inside o lo hi) b (size o - 1)
+  -- and from a start on, what the search wants
+  pub wanted_tests : Tests q (from in_box q.start)
+  wanted_tests a = (
+    λ e. ((inside_decides q.order q.low q.high a).0 (from_inside in_box q.start a e), from_start in_box q.start a e),
+    λ h. from_is in_box q.start a ((inside_decides q.order q.low q.high a).1 h.0) h.1,
+  )
 
-up_to_top : (k a : ℕ) → a < k → a ≤ k - 1
-up_to_top k a h = omega arith
+  -- the first address of the box up to the greatest, by the test
+  abbrev pub asked : ℕ → Option ℕ
+  asked b = first in_box b (size q.order - 1)
 
-least_is_first : (o : Order) (lo hi : List ℕ) (b : ℕ) → InSpaceOf o lo → InSpaceOf o hi → (r : Option ℕ) → Least r (Hit (inside o lo hi) b (size o - 1)) → FirstIs o lo hi b r
-least_is_first o lo hi b il ih None l = λ jl jh c le h. l c (le, up_to_top (size o) c h.0, (inside_decides o lo hi c).1 h)
-least_is_first o lo hi b il ih (Some a) l = (
-  il,
-  ih,
-  l.0.0,
-  (inside_decides o lo hi a).0 l.0.2,
-  λ c le lt h. l.1 c lt (le, up_to_top (size o) c h.0, (inside_decides o lo hi c).1 h),
-)
+  up_to_top : (k a : ℕ) → a < k → a ≤ k - 1
+  up_to_top k a h = omega arith
 
-pub asked_asks : (o : Order) (lo hi : List ℕ) → InSpaceOf o lo → InSpaceOf o hi → Asks o lo hi (asked o lo hi)
-asked_asks o lo hi il ih b = least_is_first o lo hi b il ih (asked o lo hi b) (first_least (inside o lo hi) b (size o - 1))
+  least_is_first : (b : ℕ) → InSpaceOf q.order q.low → InSpaceOf q.order q.high → (r : Option ℕ) → Least r (Hit in_box b (size q.order - 1)) → FirstFrom q b r
+  least_is_first b il ih None l = λ jl jh c le h. l c (le, up_to_top (size q.order) c h.0, (inside_decides q.order q.low q.high c).1 h)
+  least_is_first b il ih (Some a) l = (
+    il,
+    ih,
+    l.0.0,
+    (inside_decides q.order q.low q.high a).0 l.0.2,
+    λ c le lt h. l.1 c lt (le, up_to_top (size q.order) c h.0, (inside_decides q.order q.low q.high c).1 h),
+  )
+
+  pub asked_asks : InSpaceOf q.order q.low → InSpaceOf q.order q.high → Asks q asked
+  asked_asks il ih b = least_is_first b il ih (asked b) (first_least in_box b (size q.order - 1))

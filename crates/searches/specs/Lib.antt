@@ -1,3 +1,4 @@
+pub mod Sought
 pub mod Inside
 pub mod Finds
 pub mod Walking

@@ -4,5 +4,7 @@
 pub mod find;
 mod finding;
 mod part;
+pub mod request;
 pub mod search;
 mod walking;
+mod within;

@@ -2,7 +2,7 @@
 use crate::find::Ending;
 
 // How it ended, how many pages it read, and the next address of the box that is not yet passed.
-#[derive(Clone, Copy)]
+#[derive(Clone, Copy, PartialEq, Eq, Debug)]
 pub struct Part {
     pub ending: Ending,
     pub reads: u32,

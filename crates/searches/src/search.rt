@@ -1,58 +1,35 @@
 // The search of a box in a tree of pages.
-ghost use Rattle.std.specs.Prelude.{◌≡◌};
-ghost use Rattle.searches.specs.Searching.{nothing as none_found, Searches};
+ghost use Rattle.searches.specs.Sought.{sought};
+ghost use Rattle.searches.specs.Searching.{Searches};
 
-use crate::find::{Ending, Find, Found};
+use crate::find::{Find, Found};
+use crate::request::Request;
 use crate::walking::walk_page;
+use layout::page_ref::PageRef;
 use orders::order::PointOrder;
-use orders::space::QueryBox;
 use pages::store::PageStore;
 use records::tray::Tray;
 
-fn nothing() -> Found
-    ensures { result ≡ none_found }
-{
-    Found {
-        count: 0,
-        reads: 0,
-        ending: Ending::Done,
-    }
-}
-
-// Finds the events of the box from the address `start` on, in a tree with this root and height over the addresses 0 to `top`: depth first, a
-// page before its children, by rising address. It ends where the box has no address left, where the lent memory has no room for an event, or
-// where the charge does not carry a read.
+// Finds the events that are asked for in a tree with this root, at its height, over the addresses 0 to `top`: depth first, a page before
+// its children, by rising address. A root at level 0 is that of the empty tree. It ends where the box has no address left, where the lent
+// memory has no room for an event, or where the charge does not carry a read.
 pub fn search<S: PageStore, O: PointOrder>(
     store: &mut S,
-    order: &O,
-    query: &QueryBox,
-    start: u64,
-    root: u16,
-    height: u8,
+    request: &Request<'_, O>,
+    root: PageRef,
     top: u64,
     memory: &mut [Find],
 ) -> Found
-    ensures { Searches (O.PointOrder.meaning order.now) query.now.low.coords query.now.high.coords start
-        (S.PageStore.meaning store.old) root height top memory.old result (S.PageStore.meaning store.new) memory.new }
+    ensures { Searches (sought O.PointOrder.meaning request.now) (S.PageStore.meaning store.old) root top memory.old result (S.PageStore.meaning store.new) memory.new }
 {
-    if height == 0 {
-        return nothing();
+    if root.level == 0 {
+        return Found::default();
     }
-    let Some(first) = order.first(query, start) else {
-        return nothing();
+    let Some(first) = request.first() else {
+        return Found::default();
     };
     let mut finds = Tray::over(memory);
-    let part = walk_page(
-        store,
-        order,
-        query,
-        start,
-        root,
-        height,
-        top,
-        Some(first),
-        &mut finds,
-    );
+    let part = walk_page(store, request, root, top, Some(first), &mut finds);
     Found {
         count: finds.len(),
         reads: part.reads,

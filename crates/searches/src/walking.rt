@@ -1,16 +1,18 @@
 // The walk of a search over the pages of a tree.
-ghost use Rattle.std.specs.Prelude.{◌≡◌, suc, ◌<◌, ◌≤◌};
-ghost use Rattle.orders.specs.Orders.{FirstIs};
-ghost use Rattle.searches.specs.Walking.{Reached, Walks};
+ghost use Rattle.std.specs.Prelude.{◌≡◌, ◌+◌, ◌<◌, length, slice_index_or};
+ghost use Rattle.layout.specs.Listed.{blank};
+ghost use Rattle.searches.specs.Sought.{sought};
+ghost use Rattle.searches.specs.Walking.{Reached, Walks, WalksBelow};
 
 use crate::find::{Ending, Find};
 use crate::finding::put_finds;
 use crate::part::Part;
+use crate::request::Request;
 use faults::access::fetch;
+use layout::entry::Entry;
 use layout::list::EntryList;
 use layout::page_ref::PageRef;
 use orders::order::PointOrder;
-use orders::space::QueryBox;
 use pages::store::PageStore;
 use records::tray::Tray;
 
@@ -18,94 +20,104 @@ use records::tray::Tray;
 fn reached(next: Option<u64>, end: u64) -> Option<u64>
     ensures { Reached next end result }
 {
-    match next {
-        Some(a) => { if a <= end { Some(a) } else { None } }
-        None => None,
-    }
-}
-
-// The first address of the box past the end of a region.
-fn first_past<O: PointOrder>(order: &O, query: &QueryBox, end: u64) -> Option<u64>
-    ensures { FirstIs (O.meaning order.now) query.now.low.coords query.now.high.coords (suc end) result }
-{
-    if end == u64::MAX {
-        return None;
-    }
-    order.first(query, end + 1)
+    next.filter(|a| *a <= end)
 }
 
 // Walks the part of a tree under a page, of which the region ends at `end`, with the next address of the box.
+#[cycle(walk)]
 pub(crate) fn walk_page<S: PageStore, O: PointOrder>(
     store: &mut S,
-    order: &O,
-    query: &QueryBox,
-    start: u64,
-    page: u16,
-    level: u8,
+    request: &Request<'_, O>,
+    at: PageRef,
     end: u64,
     next: Option<u64>,
     finds: &mut Tray<'_, Find>,
 ) -> Part
-    ensures walks { Walks (O.PointOrder.meaning order.now) query.now.low.coords query.now.high.coords start
-        (S.PageStore.meaning store.old) page level end next finds.old.memory.now finds.old.used
-        result (S.PageStore.meaning store.new) finds.new.memory.now finds.new.used }
-    ensures lent { finds.new.memory.ghost_name ≡ finds.old.memory.ghost_name }
+    ensures { Walks (sought O.PointOrder.meaning request.now) (S.PageStore.meaning store.old) at end next finds.old result (S.PageStore.meaning store.new) finds.new }
 {
+    let unread = Part {
+        ending: Ending::Done,
+        reads: 0,
+        next,
+    };
     let Some(a) = reached(next, end) else {
-        return Part {
-            ending: Ending::Done,
-            reads: 0,
-            next,
-        };
+        return unread;
     };
     let mut bytes = [0; 128];
-    if let Err(_) = fetch(store, PageRef { page, level }, &mut bytes) {
+    if fetch(store, at, &mut bytes).is_err() {
         return Part {
-            ending: Ending::Cut(page, a),
-            reads: 0,
-            next,
+            ending: Ending::Cut(at.page, a),
+            ..unread
         };
     }
     let list = EntryList::of_page(&bytes);
-    if level <= 1 {
-        let ending = put_finds(order, query, start, list.as_slice(), finds);
+    let entries = list.as_slice();
+    if at.level <= 1 {
+        let ending = put_finds(request, entries, finds);
         return Part {
             ending,
             reads: 1,
-            next: first_past(order, query, end),
+            next: request.first_past(end),
         };
     }
-    let entries = list.as_slice();
-    let mut reads = 0u32;
-    let mut nearest = next;
-    for j in 0..entries.len() {
-        let e = entries[j];
-        let child_end = if j + 1 == entries.len() { end } else { e.key };
+    let below = walk_children(store, request, at.level - 1, entries, end, next, finds);
+    Part {
+        reads: below.reads + 1,
+        ..below
+    }
+}
+
+// The end of a child's region: its key, but the last child's ends where the page's does.
+fn end_of(children: &[Entry], i: usize, end: u64) -> u64
+    requires { i < length children.now }
+    ensures inside { i + 1 < length children.now → result ≡ (slice_index_or children.now i blank).key }
+    ensures last { i + 1 ≡ length children.now → result ≡ end }
+{
+    if i + 1 == children.len() {
+        end
+    } else {
+        children[i].key
+    }
+}
+
+// Walks the children of an inner page, of which the region ends at `end`, up to the first that does not end done.
+#[cycle(walk)]
+fn walk_children<S: PageStore, O: PointOrder>(
+    store: &mut S,
+    request: &Request<'_, O>,
+    level: u8,
+    children: &[Entry],
+    end: u64,
+    next: Option<u64>,
+    finds: &mut Tray<'_, Find>,
+) -> Part
+    ensures { WalksBelow (sought O.PointOrder.meaning request.now) (S.PageStore.meaning store.old) level children.now end next finds.old result (S.PageStore.meaning store.new) finds.new }
+{
+    let mut walked = Part {
+        ending: Ending::Done,
+        reads: 0,
+        next,
+    };
+    for (i, child) in children.iter().enumerate() {
+        let at = PageRef {
+            page: child.value,
+            level,
+        };
         let part = walk_page(
             store,
-            order,
-            query,
-            start,
-            e.value,
-            level - 1,
-            child_end,
-            nearest,
+            request,
+            at,
+            end_of(children, i, end),
+            walked.next,
             finds,
         );
-        reads += part.reads;
-        nearest = part.next;
-        match part.ending {
-            Ending::Done => {}
-            other => return Part {
-                ending: other,
-                reads: reads + 1,
-                next: nearest,
-            },
-        }
+        walked = Part {
+            reads: walked.reads + part.reads,
+            ..part
+        };
+        let Ending::Done = part.ending else {
+            return walked;
+        };
     }
-    Part {
-        ending: Ending::Done,
-        reads: reads + 1,
-        next: nearest,
-    }
+    walked
 }

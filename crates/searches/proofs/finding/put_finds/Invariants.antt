@@ -1,9 +1,6 @@
-use Rattle.std.proofs.Common.{◌≡◌}
-use Rattle.searches.proofs.LeafFinds.{AllSearched}
+use Rattle.searches.specs.Sought.{sought}
+use Rattle.searches.proofs.LeafFinds.{Searched}
 use Rattle.searches.proofs.finding.put_finds.Given as goal
 
-abbrev pub invariant-loop-i : goal.invariant-loop-i
-invariant-loop-i g l =
-    AllSearched (g.O.PointOrder.meaning l.order) l.query.low.coords l.query.high.coords l.start l.entries
-    l.initial.finds.memory.now l.initial.finds.used l.i l.finds.memory.now l.finds.used
-    × (l.finds.memory.ghost_name ≡ l.initial.finds.memory.ghost_name)
+abbrev pub invariant-loop-e : goal.invariant-loop-e
+invariant-loop-e g l = Searched (sought g.O.PointOrder.meaning l.request) l.entries l.e-index l.initial.finds l.finds
