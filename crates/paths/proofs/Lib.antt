@@ -3,14 +3,13 @@ pub mod PathsWriting
 pub mod PathsMemory
 pub mod PathsReading
 pub mod PathsKept
-pub mod PathsTables
+pub mod PathsBack
 pub mod PathsCopying
 pub mod TallyReading
 pub mod TallyKept
 pub mod LodgePlacing
 pub mod LodgeEdits
 pub mod LodgeClimbing
-pub mod LodgeTracing
 pub mod LodgeRooting
 pub mod LodgeAlone
 pub mod LodgeKeeping

@@ -9,6 +9,7 @@ use Rattle.layout.specs.Listed.{entries}
 use Rattle.tree.specs.CopyMoves.{Split}
 use Rattle.tree.specs.CopyMemory.{place_at}
 use Rattle.faults.specs.declared.fault.Fault.{Fault}
+use Rattle.arrayvec.specs.ArrayVec.{ArrayVec}
 use Rattle.paths.specs.declared.place.Placed.{Placed}
 use Rattle.paths.specs.PathsWrites.{Wrote, Unwrites}
 use Rattle.paths.specs.PathsPages.{write_of}
@@ -33,12 +34,12 @@ first_refused level used p (Some r) es free m m' f h a u =
     at_front level used p (get_or free (used + 1) 0) (halves_of es (Some r)) free m m' (Err f) h a refl
     (unwrites_less (write_of level p es ∷ []) (write_of level (get_or free (used + 1) 0) (entries r.entries) ∷ []) m m' f u)
 
-pub placed_one : (level used p : ℕ) (right : Option RightHalf) (es : List Entry) (free : List ℕ) (m m' : Image) → used + 2 ≤ length free → p ≡ get_or free used 0 → right ≡ None
-    → Wrote (write_of level p es ∷ []) m m' → Places m level (halves_of es right) free used (Ok (record { pages = One p; used = used + 1 })) m'
-placed_one level used p right es free m m' h a e w =
-    subst (λ (x : Option RightHalf). Places m level (halves_of es x) free used (Ok (record { pages = One p; used = used + 1 })) m') (sym e)
-    (at_front level used p (get_or free (used + 1) 0) (halves_of es None) free m m' (Ok (record { pages = One p; used = used + 1 })) h a refl
-    (record { pages = refl; rest = drop_more free (used + 1) 0 (omega arith); uses = refl }, w))
+pub placed_one : (level used next p : ℕ) (right : Option RightHalf) (es : List Entry) (free : List ℕ) (path : ArrayVec ℕ) (m m' : Image) → next ≡ used + 1 → used + 2 ≤ length free → p ≡ get_or free used 0 → right ≡ None
+    → Wrote (write_of level p es ∷ []) m m' → Places m level (halves_of es right) free used (Ok (record { pages = One p; used = next; path = path })) m'
+placed_one level used next p right es free path m m' i h a e w =
+    subst (λ (x : Option RightHalf). Places m level (halves_of es x) free used (Ok (record { pages = One p; used = next; path = path })) m') (sym e)
+    (at_front level used p (get_or free (used + 1) 0) (halves_of es None) free m m' (Ok (record { pages = One p; used = next; path = path })) h a refl
+    (record { pages = refl; rest = ap (λ (x : ℕ). drop x free) i ∙ drop_more free (used + 1) 0 (omega arith); uses = i }, w))
 
 pub second_refused : (level used p q : ℕ) (right : Option RightHalf) (r : RightHalf) (es : List Entry) (free : List ℕ) (m m₁ m' : Image) (f : Fault) → used + 2 ≤ length free
     → p ≡ get_or free used 0 → q ≡ get_or free (used + 1) 0 → right ≡ Some r → Wrote (write_of level p es ∷ []) m m₁ → Unwrites (write_of level q (entries r.entries) ∷ []) m₁ f m'
@@ -48,12 +49,12 @@ second_refused level used p q right r es free m m₁ m' f h a b e w u =
     (at_front level used p q (halves_of es (Some r)) free m m' (Err f) h a b
     (unwrites_more (write_of level p es ∷ []) (write_of level q (entries r.entries) ∷ []) m m₁ m' f w u))
 
-pub placed_two : (level used p q : ℕ) (right : Option RightHalf) (r : RightHalf) (es : List Entry) (free : List ℕ) (m m₁ m' : Image) → used + 2 ≤ length free
+pub placed_two : (level used next p q : ℕ) (right : Option RightHalf) (r : RightHalf) (es : List Entry) (free : List ℕ) (path : ArrayVec ℕ) (m m₁ m' : Image) → next ≡ used + 1 + 1 → used + 2 ≤ length free
     → p ≡ get_or free used 0 → q ≡ get_or free (used + 1) 0 → right ≡ Some r → Wrote (write_of level p es ∷ []) m m₁ → Wrote (write_of level q (entries r.entries) ∷ []) m₁ m'
-    → Places m level (halves_of es right) free used (Ok (record { pages = Two p r.key q; used = used + 2 })) m'
-placed_two level used p q right r es free m m₁ m' h a b e w v =
-    subst (λ (x : Option RightHalf). Places m level (halves_of es x) free used (Ok (record { pages = Two p r.key q; used = used + 2 })) m') (sym e)
-    (at_front level used p q (halves_of es (Some r)) free m m' (Ok (record { pages = Two p r.key q; used = used + 2 })) h a b (
-      record { pages = refl; rest = ap (λ (n : ℕ). drop n free) (omega arith); uses = refl },
+    → Places m level (halves_of es right) free used (Ok (record { pages = Two p r.key q; used = next; path = path })) m'
+placed_two level used next p q right r es free path m m₁ m' i h a b e w v =
+    subst (λ (x : Option RightHalf). Places m level (halves_of es x) free used (Ok (record { pages = Two p r.key q; used = next; path = path })) m') (sym e)
+    (at_front level used p q (halves_of es (Some r)) free m m' (Ok (record { pages = Two p r.key q; used = next; path = path })) h a b (
+      record { pages = refl; rest = ap (λ (n : ℕ). drop n free) i; uses = omega (arith, i) },
       wrote_more (write_of level p es ∷ []) (write_of level q (entries r.entries) ∷ []) m m₁ m' w v,
     ))

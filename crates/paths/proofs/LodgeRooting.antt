@@ -1,9 +1,12 @@
 -- A new root, the first leaf, and the whole tree.
-use Rattle.std.proofs.Common.{◌≡◌, ℕ, zero, suc, ◌+◌, ◌<◌, ◌≤◌, List, [], ◌∷◌, ◌++◌, length, get_or, drop, Ok, Err, Result, sym, refl, ap, ◌∙◌, subst, inl, inr, arith, length-append}
+use Rattle.std.proofs.Common.{◌≡◌, ℕ, zero, suc, ◌+◌, ◌<◌, ◌≤◌, List, [], ◌∷◌, ◌++◌, reverse, length, get_or, drop, Ok, Err, Result, sym, refl, ap, ◌∙◌, subst, inl, inr, arith, length-append}
+use Rattle.std.specs.Prelude.{IfOk}
 use Rattle.std.proofs.lemmas.List.{drop_more}
+use Rattle.arrayvec.specs.ArrayVec.{ArrayVec}
 use Rattle.pages.specs.Image.{Image}
 use Rattle.layout.specs.declared.change.ChildPages.{ChildPages}
-use Rattle.layout.specs.declared.change.ChildPages.TheVariants.{Two}
+use Rattle.layout.specs.declared.change.ChildPages.TheVariants.{One, Two}
+use Rattle.layout.specs.declared.page_ref.PageRef.{PageRef}
 use Rattle.tree.specs.Tree.{Contents}
 use Rattle.tree.specs.CopyWrites.{Write}
 use Rattle.tree.specs.CopyMoves.{Split, Made, entry}
@@ -21,34 +24,47 @@ use Rattle.paths.specs.declared.place.Placed.{Placed}
 use Rattle.paths.specs.declared.plan.Plan.{Plan}
 use Rattle.paths.specs.PathsWrites.{after_reads, Wrote, Unwrites}
 use Rattle.paths.specs.PathsPages.{write_of}
-use Rattle.paths.specs.PathsReading.{back}
+use Rattle.paths.specs.PathsReading.{IsPath}
 use Rattle.paths.specs.LodgePlaces.{pages_in}
-use Rattle.paths.specs.LodgeRules.{Allowed, Denied, Lodged, Traced, count_under, height_under, takes_under}
+use Rattle.paths.specs.LodgeRules.{Allowed, Denied, Lodged, count_under, height_under, takes_under}
 use Rattle.paths.specs.LodgeRules.Denied.{full, high, few}
 use Rattle.paths.specs.LodgeRules.Unlodged.{denied, cut}
 use Rattle.paths.specs.LodgeTree.{Rooted, Roots, LodgedBy}
-use Rattle.paths.proofs.PathsWriting.{after_none, wrote_more, unwrites_more, unwrites_less}
+use Rattle.paths.proofs.PathsBack.{same_path}
+use Rattle.paths.proofs.PathsWriting.{after_none, wrote_none, wrote_more, unwrites_more, unwrites_less}
 
-at_front : (h used p v k w : ℕ) (free path : List ℕ) (pages : ChildPages) (m m' : Image) (r : Result Copied Fault) → used + 1 ≤ length free → p ≡ get_or free used 0 → pages ≡ Two v k w
-    → Rooted (new_root_at h (two v k w) [] (p ∷ drop (used + 1) free)) (suc h) path used m r m' → Roots m h (pages_in pages) free used path r m'
-at_front h used p v k w free path pages m m' r n e q t =
-    subst (λ (x : ChildPages). Roots m h (pages_in x) free used path r m') (sym q)
-    (subst (λ (z : List ℕ). Rooted (new_root_at h (two v k w) [] z) (suc h) path used m r m')
+at_front : (h used p v k w : ℕ) (free : List ℕ) (pages : ChildPages) (m m' : Image) (r : Result Copied Fault) → used + 1 ≤ length free → p ≡ get_or free used 0 → pages ≡ Two v k w
+    → Rooted (new_root_at h (two v k w) [] (p ∷ drop (used + 1) free)) (suc h) used m r m' → Roots m h (pages_in pages) free used r m'
+at_front h used p v k w free pages m m' r n e q t =
+    subst (λ (x : ChildPages). Roots m h (pages_in x) free used r m') (sym q)
+    (subst (λ (z : List ℕ). Rooted (new_root_at h (two v k w) [] z) (suc h) used m r m')
     (sym (drop_more free used 0 (omega arith) ∙ ap (λ (x : ℕ). x ∷ drop (used + 1) free) (sym e))) t)
 
-pub root_refused : (h used p v k w : ℕ) (free path : List ℕ) (pages : ChildPages) (m m' : Image) (f : Fault) → used + 1 ≤ length free → p ≡ get_or free used 0 → pages ≡ Two v k w
-    → Unwrites (write_of (h + 1) p (entry k v ∷ (entry 0 w ∷ [])) ∷ []) m f m' → Roots m h (pages_in pages) free used path (Err f) m'
-root_refused h used p v k w free path pages m m' f n e q u =
+pub root_refused : (h used p v k w : ℕ) (free : List ℕ) (pages : ChildPages) (m m' : Image) (f : Fault) → used + 1 ≤ length free → p ≡ get_or free used 0 → pages ≡ Two v k w
+    → Unwrites (write_of (h + 1) p (entry k v ∷ (entry 0 w ∷ [])) ∷ []) m f m' → Roots m h (pages_in pages) free used (Err f) m'
+root_refused h used p v k w free pages m m' f n e q u =
     let s : h + 1 ≡ suc h = omega arith in
-    at_front h used p v k w free path pages m m' (Err f) n e q (subst (λ (x : ℕ). Unwrites (write_of x p (entry k v ∷ (entry 0 w ∷ [])) ∷ []) m f m') s u)
+    at_front h used p v k w free pages m m' (Err f) n e q (subst (λ (x : ℕ). Unwrites (write_of x p (entry k v ∷ (entry 0 w ∷ [])) ∷ []) m f m') s u)
 
-pub root_made : (h used p v k w : ℕ) (free path : List ℕ) (pages : ChildPages) (m m' : Image) → used + 1 ≤ length free → p ≡ get_or free used 0 → pages ≡ Two v k w
-    → Wrote (write_of (h + 1) p (entry k v ∷ (entry 0 w ∷ [])) ∷ []) m m'
-    → Roots m h (pages_in pages) free used path (Ok (record { root = record { page = p; level = h + 1 }; used = used + 1; path = path })) m'
-root_made h used p v k w free path pages m m' n e q u =
+-- one page is the root
+pub root_stays : (h used p : ℕ) (free : List ℕ) (pages : ChildPages) (m : Image) (g : Copied) → pages ≡ One p → g.root ≡ record { page = p; level = h } → g.used ≡ used
+    → Roots m h (pages_in pages) free used (Ok g) m
+root_stays h used p free pages m g e r u =
+    subst (λ (x : ChildPages). Roots m h (pages_in x) free used (Ok g) m) (sym e)
+    (record { root = ap (λ (x : PageRef). x.page) r; height = ap (λ (x : PageRef). x.level) r; uses = omega (arith, u); wrote = wrote_none m m refl })
+
+pub root_made : (h used p v k w : ℕ) (free : List ℕ) (pages : ChildPages) (m m' : Image) (g : Copied) → used + 1 ≤ length free → p ≡ get_or free used 0 → pages ≡ Two v k w
+    → Wrote (write_of (h + 1) p (entry k v ∷ (entry 0 w ∷ [])) ∷ []) m m' → g.root ≡ record { page = p; level = h + 1 } → g.used ≡ used + 1
+    → Roots m h (pages_in pages) free used (Ok g) m'
+root_made h used p v k w free pages m m' g n e q t r u =
     let s : h + 1 ≡ suc h = omega arith in
-    at_front h used p v k w free path pages m m' (Ok (record { root = record { page = p; level = h + 1 }; used = used + 1; path = path })) n e q
-    (refl, s, refl, refl, subst (λ (x : ℕ). Wrote (write_of x p (entry k v ∷ (entry 0 w ∷ [])) ∷ []) m m') s u)
+    at_front h used p v k w free pages m m' (Ok g) n e q
+    (record {
+      root = ap (λ (x : PageRef). x.page) r;
+      height = ap (λ (x : PageRef). x.level) r ∙ s;
+      uses = u;
+      wrote = subst (λ (x : ℕ). Wrote (write_of x p (entry k v ∷ (entry 0 w ∷ [])) ∷ []) m m') s t;
+    })
 
 new_root_part : (h : ℕ) (s : Split ℕ) (ws : List Write) (free : List ℕ) → (new_root_at h s ws free).part ≡ (new_root_at h s [] free).part
 new_root_part h (one p) ws free = refl
@@ -116,29 +132,29 @@ tree_fails zero m m' p a free f o l t = absurd (omega arith)
 tree_fails (suc h) m m' p a free f o l t = root_fails h m m' p a free f l t
 
 -- they are written, and then the new root
-root_ends : (h : ℕ) (m m₁ m' : Image) (p a used : ℕ) (free path : List ℕ) (r : Result Copied Fault)
+root_ends : (h : ℕ) (m m₁ m' : Image) (p a used : ℕ) (free : List ℕ) (r : Result Copied Fault)
     → suc h ≤ m.charge
     → Allowed (count_under (suc h) (contents m) p a) (lodge_by (suc h) (contents m) p a free).next.height (needed (suc h) (contents m) p a) (length free)
     → used ≡ 0 + length (lodge_at (suc h) (contents m) p a free).writes
     → Wrote (lodge_at (suc h) (contents m) p a free).writes (after_reads m (suc h)) m₁
-    → back (suc h) path ≡ path_at (suc h) (contents m) p a
-    → Rooted (new_root_at (suc h) (lodge_at (suc h) (contents m) p a free).part [] (lodge_at (suc h) (contents m) p a free).rest) (raised_at (lodge_at (suc h) (contents m) p a free).part (suc h)) path used m₁ r m'
+    → IfOk r (λ g. IsPath m (suc h) p a g.path.items)
+    → Rooted (new_root_at (suc h) (lodge_at (suc h) (contents m) p a free).part [] (lodge_at (suc h) (contents m) p a free).rest) (raised_at (lodge_at (suc h) (contents m) p a free).part (suc h)) used m₁ r m'
     → LodgedBy m (suc h) p a free r m'
-root_ends h m m₁ m' p a used free path (Ok g) c d q w b v =
+root_ends h m m₁ m' p a used free (Ok g) c d q w b v =
     let k : Made (Split ℕ) = lodge_at (suc h) (contents m) p a free in
     let W : List Write = (new_root_at (suc h) k.part [] k.rest).writes in
     let e : (new_root_at (suc h) k.part k.writes k.rest).writes ≡ k.writes ++ W = new_root_writes (suc h) k.part k.writes k.rest in (
       c,
       d,
       record {
-        root = v.0 ∙ sym (new_root_part (suc h) k.part k.writes k.rest);
-        height = v.1;
-        used = omega (arith, q, v.2, ap length e, length-append k.writes W);
-        path = ap (back (suc h)) v.3 ∙ b;
+        root = v.root ∙ sym (new_root_part (suc h) k.part k.writes k.rest);
+        height = v.height;
+        used = omega (arith, q, v.uses, ap length e, length-append k.writes W);
+        path = b;
       },
-      subst (λ (ws : List Write). Wrote ws (after_reads m (suc h)) m') (sym e) (wrote_more k.writes W (after_reads m (suc h)) m₁ m' w v.4),
+      subst (λ (ws : List Write). Wrote ws (after_reads m (suc h)) m') (sym e) (wrote_more k.writes W (after_reads m (suc h)) m₁ m' w v.wrote),
     )
-root_ends h m m₁ m' p a used free path (Err f) c d q w b v =
+root_ends h m m₁ m' p a used free (Err f) c d q w b v =
     let k : Made (Split ℕ) = lodge_at (suc h) (contents m) p a free in
     let W : List Write = (new_root_at (suc h) k.part [] k.rest).writes in
     inr (
@@ -147,16 +163,16 @@ root_ends h m m₁ m' p a used free path (Err f) c d q w b v =
           (unwrites_more k.writes W (after_reads m (suc h)) m₁ m' f w v)),
     )
 
-pub tree_roots : (h : ℕ) (m m₁ m' : Image) (p a : ℕ) (free path : List ℕ) (g : Placed) (r : Result Copied Fault) → 1 ≤ h → h ≤ 6
-    → Lodged m h p a free (record { base = h; extra = 1; height = h + 1 }) (Ok g) m₁ → Traced m h p a (Ok g) path
-    → Roots m₁ h (pages_in g.pages) free g.used path r m' → LodgedBy m h p a free r m'
-tree_roots zero m m₁ m' p a free path g r o l t b u = absurd (omega arith)
-tree_roots (suc h) m m₁ m' p a free path g r o l t b u =
+pub tree_roots : (h : ℕ) (m m₁ m' : Image) (p a : ℕ) (free : List ℕ) (g : Placed) (path : ArrayVec ℕ) (r : Result Copied Fault) → 1 ≤ h → h ≤ 6
+    → Lodged m h p a free (record { base = h; extra = 1; height = h + 1 }) (Ok g) m₁ → IsPath m h p a path.items → IfOk r (λ c. c.path ≡ path)
+    → Roots m₁ h (pages_in g.pages) free g.used r m' → LodgedBy m h p a free r m'
+tree_roots zero m m₁ m' p a free g path r o l t b i u = absurd (omega arith)
+tree_roots (suc h) m m₁ m' p a free g path r o l t b i u =
     let k : Made (Split ℕ) = lodge_at (suc h) (contents m) p a free in
-    let v : Rooted (new_root_at (suc h) k.part [] k.rest) (raised_at k.part (suc h)) path g.used m₁ r m' =
-    subst (λ (x : List ℕ). Rooted (new_root_at (suc h) k.part [] x) (raised_at k.part (suc h)) path g.used m₁ r m') t.2.rest
-    (subst (λ (x : Split ℕ). Rooted (new_root_at (suc h) x [] (drop g.used free)) (raised_at x (suc h)) path g.used m₁ r m') t.2.pages u) in
-    root_ends h m m₁ m' p a g.used free path r t.0 (root_allowed h (length free) (contents m) p a free l t.1) t.2.uses t.3 b v
+    let v : Rooted (new_root_at (suc h) k.part [] k.rest) (raised_at k.part (suc h)) g.used m₁ r m' =
+    subst (λ (x : List ℕ). Rooted (new_root_at (suc h) k.part [] x) (raised_at k.part (suc h)) g.used m₁ r m') t.2.rest
+    (subst (λ (x : Split ℕ). Rooted (new_root_at (suc h) x [] (drop g.used free)) (raised_at x (suc h)) g.used m₁ r m') t.2.pages u) in
+    root_ends h m m₁ m' p a g.used free r t.0 (root_allowed h (length free) (contents m) p a free l t.1) t.2.uses t.3 (same_path (λ (c : Copied). c.path) m (suc h) p a path r b i) v
 
 -- the first page of all
 first_allowed : (m : Image) (p a : ℕ) (free : List ℕ) → 7 ≤ length free → Allowed (count_under 0 (contents m) p a) 1 1 (length free)
@@ -177,14 +193,14 @@ first_refused m m' p a q n (x ∷ xs) f e l z u =
           (subst (λ (y : ℕ). Unwrites (write_of 1 y (entry a 1 ∷ []) ∷ []) (after_reads m 0) f m') z (subst (λ (y : Image). Unwrites (write_of 1 q (entry a 1 ∷ []) ∷ []) y f m') (after_none m) u)),
     )
 
-pub first_made : (m m' : Image) (p a q n : ℕ) (free path : List ℕ) → n ≡ length free → 7 ≤ n → q ≡ get_or free 0 0
-    → Wrote (write_of 1 q (entry a 1 ∷ []) ∷ []) m m' → LodgedBy m 0 p a free (Ok (record { root = record { page = q; level = 1 }; used = 1; path = path })) m'
+pub first_made : (m m' : Image) (p a q n next : ℕ) (free : List ℕ) (path : ArrayVec ℕ) → next ≡ 1 → path.items ≡ [] → n ≡ length free → 7 ≤ n → q ≡ get_or free 0 0
+    → Wrote (write_of 1 q (entry a 1 ∷ []) ∷ []) m m' → LodgedBy m 0 p a free (Ok (record { root = record { page = q; level = 1 }; used = next; path = path })) m'
 unfolding path_at
-first_made m m' p a q n [] path e l z w = absurd (omega (arith, e, l))
-first_made m m' p a q n (x ∷ xs) path e l z w = (
+first_made m m' p a q n next [] path i b e l z w = absurd (omega (arith, e, l))
+first_made m m' p a q n next (x ∷ xs) path i b e l z w = (
   omega arith,
   first_allowed m p a (x ∷ xs) (omega (arith, e, l)),
-  record { root = z; height = refl; used = refl; path = refl },
+  record { root = z; height = refl; used = i; path = ap reverse b },
   subst (λ (y : ℕ). Wrote (write_of 1 y (entry a 1 ∷ []) ∷ []) (after_reads m 0) m') z (subst (λ (y : Image). Wrote (write_of 1 q (entry a 1 ∷ []) ∷ []) y m') (after_none m) w),
 )
 

@@ -1,5 +1,5 @@
 -- Each exit of withdraw at a page.
-use Rattle.std.proofs.Common.{◌≡◌, ℕ, zero, suc, ◌+◌, ◌<◌, ◌≤◌, true, List, [], ◌++◌, length, drop, None, Ok, Err, Result, sym, refl, ap, ◌∙◌, subst, arith, length-append}
+use Rattle.std.proofs.Common.{◌≡◌, ℕ, zero, suc, ◌+◌, ◌<◌, ◌≤◌, List, [], ◌++◌, length, drop, None, Ok, Err, Result, sym, refl, ap, ◌∙◌, subst, arith, length-append}
 use Rattle.pages.specs.Image.{Image, spent}
 use Rattle.layout.specs.declared.entry.Entry.{Entry}
 use Rattle.layout.specs.Edits.{found}
@@ -7,18 +7,18 @@ use Rattle.tree.specs.Tree.{Held}
 use Rattle.tree.specs.CopyWrites.{Write}
 use Rattle.tree.specs.CopyMoves.{Made, remove}
 use Rattle.tree.specs.CopyPages.{pick, clear}
-use Rattle.tree.specs.CopyMemory.{place_left_at, withdraw_at, path_at, leaf_at}
+use Rattle.tree.specs.CopyMemory.{place_left_at, withdraw_at, leaf_at}
 use Rattle.tree.proofs.CopyMemory.{place_left_writes, place_left_part, place_left_rest}
 use Rattle.tree.proofs.CopyDescent.{writes_law}
 use Rattle.faults.specs.declared.fault.Fault.{Fault}
 use Rattle.faults.specs.declared.fault.Fault.TheVariants.{NoEvent}
 use Rattle.faults.specs.Accesses.{contents}
 use Rattle.paths.specs.declared.left.Left.{Left}
-use Rattle.paths.specs.WithdrawEdits.{TakesOne, left_of}
+use Rattle.paths.specs.WithdrawEdits.{LessOne, left_of}
 use Rattle.paths.specs.PathsWrites.{after_reads, Wrote, Unwrites}
 use Rattle.paths.specs.PathsPages.{Read, UnreadPage}
-use Rattle.paths.specs.PathsReading.{Misread, back}
-use Rattle.paths.specs.Withdrawals.{Placed, PlacesLeft, Refusal, Done, Withdrawn, Traced}
+use Rattle.paths.specs.PathsReading.{Misread}
+use Rattle.paths.specs.Withdrawals.{Placed, PlacesLeft, Refusal, Done, Withdrawn}
 use Rattle.paths.specs.Withdrawals.Refusal.{misread, no_event, unwrites}
 use Rattle.paths.proofs.PathsWriting.{wrote_more, unwrites_more, unwrites_less, after_more}
 use Rattle.paths.proofs.PathsReading.{Goes, at_child, misread_here, misread_below}
@@ -42,15 +42,15 @@ unfolding leaf_at withdraw_at
 leaf_left_one m m' p a free (Ok g) c n t = record { charged = omega arith; event = n; gives = t.0; wrote = t.1 }
 leaf_left_one m m' p a free (Err f) c n t = unwrites (omega arith) n t
 
-pub leaf_left : (m m₂ m' : Image) (l p a : ℕ) (free : List ℕ) (es ds : List Entry) (r : Result Left Fault) → l ≡ 1 → Read m p l es m₂ → TakesOne a es true ds
+pub leaf_left : (m m₂ m' : Image) (l p a : ℕ) (free : List ℕ) (es ds : List Entry) (r : Result Left Fault) → l ≡ 1 → Read m p l es m₂ → LessOne a es ds
     → PlacesLeft m₂ 1 ds free 0 r m' → Withdrawn m l p a free r m'
 leaf_left m m₂ m' l p a free es ds r e o t u =
-    let d : ds ≡ remove a (contents m p).entries = t.1 ∙ ap (remove a) o.holds in
+    let d : ds ≡ remove a (contents m p).entries = t.less ∙ ap (remove a) o.holds in
     let v : Placed (place_left_at 1 (remove a (contents m p).entries) [] free) free 0 (after_reads m 1) r m' =
     subst (λ (x : List Entry). Placed (place_left_at 1 x [] free) free 0 (after_reads m 1) r m') d
     (subst (λ (x : Image). Placed (place_left_at 1 ds [] free) free 0 x r m') o.spends u) in
     subst (λ (x : ℕ). Withdrawn m x p a free r m') (sym e)
-    (leaf_left_one m m' p a free r o.charged (λ n. t.0 (ap (found a) o.holds ∙ n)) v)
+    (leaf_left_one m m' p a free r o.charged (λ n. t.event (ap (found a) o.holds ∙ n)) v)
 
 -- a page of the path, at the values that the memory has
 goes_at : (m : Image) (h p a : ℕ) → 0 < m.charge → length (contents m p).entries ≤ 10 → Goes m (spent m) (suc (suc h)) (suc h) p a (pick (contents m p).entries a) (contents m p).entries
@@ -138,8 +138,3 @@ inner_climbs (suc (suc h)) k m m₂ m₁ m' p a child free es ds g r w t e u =
 -- the pages used below are at most one for each level
 pub used_below : (m m₁ : Image) (k p a : ℕ) (free : List ℕ) (g : Left) → Done m k p a free g m₁ → g.used ≤ k
 used_below m m₁ k p a free g t = omega (arith, t.gives.uses, (writes_law k (contents m) p a free).withdraws)
-
--- the path in the table, where the answer asks for it
-pub traced : (m : Image) (l p a : ℕ) (r : Result Left Fault) (table : List ℕ) → back l table ≡ path_at l (contents m) p a → Traced m l p a r table
-traced m l p a (Ok g) table e = e
-traced m l p a (Err f) table e = tt

@@ -4,13 +4,15 @@ use Rattle.layout.specs.declared.entry.Entry.{Entry}
 use Rattle.layout.specs.declared.change.ChildPages.TheVariants.{One}
 use Rattle.layout.specs.Edits as page
 use Rattle.layout.specs.declared.change.Full.{Full}
+use Rattle.layout.specs.Edits.{found}
 use Rattle.layout.specs.Changes.{Removes, Puts}
 use Rattle.tree.specs.Tree.{Held}
 use Rattle.tree.specs.Tree.Held.{none, held}
 use Rattle.tree.specs.CopyMoves.{entry, remove}
 use Rattle.tree.specs.CopyPages.{clear, before}
 use Rattle.tree.proofs.CopyBase.{by_le, by_eq}
-use Rattle.paths.specs.WithdrawEdits.{TakesOne, left_of}
+use Rattle.paths.proofs.PathsAccesses.{differ}
+use Rattle.paths.specs.WithdrawEdits.{LessOne, left_of}
 
 remove_same : (a : ℕ) (es : List Entry) → page.remove a es ≡ remove a es
 remove_same a [] = refl
@@ -23,11 +25,15 @@ remove_length a (e ∷ es) =
     (λ _. by_le (λ (x : List Entry). length x ≤ suc (length es)) e.value 1 _ _ (λ _. omega arith) (λ _. omega arith))
     (λ _. omega (arith, remove_length a es))
 
-pub takes_one : (a : ℕ) (es after : List Entry) (r : Bool) → length es ≤ 10 → Removes a es r after → TakesOne a es r after
-takes_one a es after true n t =
+pub takes_one : (a : ℕ) (es after : List Entry) (r : Bool) → length es ≤ 10 → r ≡ true → Removes a es r after → LessOne a es after
+takes_one a es after true n y t =
     let e = t.1 ∙ remove_same a es in
-    (t.0, e, omega (arith, ap length e, remove_length a es))
-takes_one a es after false n t = t
+    record { event = t.0; less = e; few = omega (arith, ap length e, remove_length a es) }
+takes_one a es after false n y t = differ y
+
+pub takes_none : (a : ℕ) (es after : List Entry) (r : Bool) → r ≡ false → Removes a es r after → (found a es ≡ None) × (after ≡ es)
+takes_none a es after true y t = differ (sym y)
+takes_none a es after false y t = t
 
 before_length : (e : Entry) (es : List Entry) → length (before e es) ≡ suc (length es)
 before_length e [] = refl

@@ -25,8 +25,8 @@ use Rattle.faults.specs.Accesses.{contents}
 use Rattle.paths.specs.declared.left.Left.{Left}
 use Rattle.paths.specs.declared.copied.Copied.{Copied}
 use Rattle.paths.specs.PathsWrites.{after_reads, Wrote, Unwrites}
-use Rattle.paths.specs.PathsReading.{counted}
-use Rattle.paths.specs.Withdrawals.{Done, Refusal, Traced}
+use Rattle.paths.specs.PathsReading.{counted, IsPath}
+use Rattle.paths.specs.Withdrawals.{Done, Refusal}
 use Rattle.paths.specs.Withdrawals.Refusal.{misread, no_event, unwrites}
 use Rattle.paths.specs.WithdrawRules.{copied_of, CopiesLeft, RoomFor, NotWithdrawn, Withdrew, Withdraws, WithdrawIs, WithdrawNextLaw, WithdrawFreeLaw, WithdrawRefusedLaw}
 use Rattle.paths.specs.WithdrawRules.NotWithdrawn.{no_room, refusal}
@@ -44,9 +44,9 @@ empty_none m p a free = no_event refl (omega arith) refl (after_none m)
 pub empty_refused : (m : Image) (h p a : ℕ) (free : List ℕ) → h ≡ 0 → Withdrew m h p a free (Err NoEvent) m
 empty_refused m h p a free e = subst (λ (x : ℕ). Withdrew m x p a free (Err NoEvent) m) (sym e) (refusal (omega arith, omega arith) (empty_none m p a free))
 
-pub root_copied : (m m' : Image) (h p a : ℕ) (free path : List ℕ) (g : Left) (c : Copied) → RoomFor h free → 1 ≤ h → Done m h p a free g m' → Traced m h p a (Ok g) path → c ≡ copied_of g h path → Withdrew m h p a free (Ok c) m'
-root_copied m m' zero p a free path g c b o t w e = absurd (omega arith)
-root_copied m m' (suc h) p a free path g c b o t w e =
+pub root_copied : (m m' : Image) (h p a : ℕ) (free : List ℕ) (g : Left) (c : Copied) → RoomFor h free → 1 ≤ h → Done m h p a free g m' → IsPath m h p a g.path.items → c ≡ copied_of g h → Withdrew m h p a free (Ok c) m'
+root_copied m m' zero p a free g c b o t w e = absurd (omega arith)
+root_copied m m' (suc h) p a free g c b o t w e =
     subst (λ (x : Copied). CopiesLeft m (suc h) p a free x m') (sym e) (record {
       room = b;
       charged = t.charged;

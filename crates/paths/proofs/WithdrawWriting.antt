@@ -5,6 +5,7 @@ use Rattle.pages.specs.Image.{Image}
 use Rattle.layout.specs.declared.entry.Entry.{Entry}
 use Rattle.tree.specs.CopyMemory.{place_left_at}
 use Rattle.faults.specs.declared.fault.Fault.{Fault}
+use Rattle.arrayvec.specs.ArrayVec.{ArrayVec}
 use Rattle.paths.specs.declared.left.Left.{Left}
 use Rattle.paths.specs.PathsPages.{WritesPage}
 use Rattle.paths.specs.Withdrawals.{Placed, PlacesLeft}
@@ -14,9 +15,9 @@ is_empty : (es : List Entry) (n : ℕ) → n ≡ length es → n ≡ 0 → es �
 is_empty [] n e z = refl
 is_empty (x ∷ es) n e z = absurd (omega arith)
 
-pub none_left : (level used n : ℕ) (es : List Entry) (free : List ℕ) (m : Image) → n ≡ length es → n ≡ 0 → PlacesLeft m level es free used (Ok (record { page = None; used = used })) m
-none_left level used n es free m e z =
-    subst (λ (x : List Entry). PlacesLeft m level x free used (Ok (record { page = None; used = used })) m) (sym (is_empty es n e z))
+pub none_left : (level used n : ℕ) (es : List Entry) (free : List ℕ) (path : ArrayVec ℕ) (m : Image) → n ≡ length es → n ≡ 0 → PlacesLeft m level es free used (Ok (record { page = None; used = used; path = path })) m
+none_left level used n es free path m e z =
+    subst (λ (x : List Entry). PlacesLeft m level x free used (Ok (record { page = None; used = used; path = path })) m) (sym (is_empty es n e z))
     (record { part = refl; rest = refl; uses = omega arith }, wrote_none m m refl)
 
 -- from a free list with a page in front
@@ -26,11 +27,11 @@ at_front level used p e es free m m' r h q t =
     let d : drop used free ≡ p ∷ drop (used + 1) free = drop_more free used 0 h ∙ ap (λ (x : ℕ). x ∷ drop (used + 1) free) (sym q) in
     subst (λ (z : List ℕ). Placed (place_left_at level (e ∷ es) [] z) free used m r m') (sym d) t
 
-pub left_written : (level used p n : ℕ) (es : List Entry) (free : List ℕ) (m m' : Image) → n ≡ length es → (n ≡ 0 → ⊥) → used < length free → p ≡ get_or free used 0
-    → WritesPage m level p es (Ok tt) m' → PlacesLeft m level es free used (Ok (record { page = Some p; used = used + 1 })) m'
-left_written level used p n [] free m m' k some h q w = absurd (some k)
-left_written level used p n (e ∷ es) free m m' k some h q w =
-    at_front level used p e es free m m' (Ok (record { page = Some p; used = used + 1 })) h q (record { part = refl; rest = refl; uses = refl }, w)
+pub left_written : (level used next p n : ℕ) (es : List Entry) (free : List ℕ) (path : ArrayVec ℕ) (m m' : Image) → next ≡ used + 1 → n ≡ length es → (n ≡ 0 → ⊥) → used < length free → p ≡ get_or free used 0
+    → WritesPage m level p es (Ok tt) m' → PlacesLeft m level es free used (Ok (record { page = Some p; used = next; path = path })) m'
+left_written level used next p n [] free path m m' u k some h q w = absurd (some k)
+left_written level used next p n (e ∷ es) free path m m' u k some h q w =
+    at_front level used p e es free m m' (Ok (record { page = Some p; used = next; path = path })) h q (record { part = refl; rest = ap (λ (x : ℕ). drop x free) u; uses = u }, w)
 
 pub left_refused : (level used p n : ℕ) (es : List Entry) (free : List ℕ) (m m' : Image) (f : Fault) → n ≡ length es → (n ≡ 0 → ⊥) → used < length free → p ≡ get_or free used 0
     → WritesPage m level p es (Err f) m' → PlacesLeft m level es free used (Err f) m'

@@ -1,5 +1,5 @@
 -- Lodge where a state is kept: what is answered, and what the store holds then.
-use Rattle.std.specs.Prelude.{◌≡◌, ℕ, suc, ◌+◌, ◌<◌, ◌≤◌, List, ◌++◌, length, drop, Ok, Err, Result}
+use Rattle.std.specs.Prelude.{◌≡◌, ℕ, suc, ◌+◌, ◌<◌, ◌≤◌, List, ◌++◌, reverse, length, drop, Ok, Err, Result}
 use Rattle.pages.specs.Image.{Image}
 use Rattle.tree.specs.Tree.{count_at}
 use Rattle.tree.specs.CopyMoves.{State, lodge_step}
@@ -9,7 +9,7 @@ use Rattle.faults.specs.declared.fault.Fault.TheVariants.{Shut, Outside, Work, A
 use Rattle.faults.specs.Accesses.{contents}
 use Rattle.paths.specs.declared.copied.Copied.{Copied}
 use Rattle.paths.specs.PathsWrites.{Wrote, WritesRunOut, after_reads}
-use Rattle.paths.specs.PathsReading.{RunsOut, KeptAt, back}
+use Rattle.paths.specs.PathsReading.{RunsOut, KeptAt}
 use Rattle.paths.specs.PathsCopies.{LeavesAlone}
 use Rattle.paths.specs.LodgeRules.{Allowed}
 use Rattle.paths.specs.LodgeTree.{LodgedBy}
@@ -32,7 +32,7 @@ pub record LodgeDone (m : Image) (s : State) (a : ℕ) (g : Copied) (m' : Image)
   pub root : g.root.page ≡ root_of (lodge_step s a).next.tree
   pub height : g.root.level ≡ (lodge_step s a).next.height
   pub used : g.used ≡ length (lodge_step s a).writes
-  pub path : back s.height g.path ≡ path_of s.tree a
+  pub path : reverse g.path.items ≡ path_of s.tree a
   pub wrote : Wrote (lodge_step s a).writes (after_reads m s.height) m'
 
 -- The answers in the order of the questions: the path is read (9), the count is below 65,535 (14), the height stays at most 6 (15),
@@ -69,7 +69,7 @@ LodgeNextLaw = (m m' : Image) (limit total top : ℕ) (s : State) (a : ℕ) (g :
 -- its free list is the old path, the root first, before what is left of the old free list
 abbrev pub LodgeFreeLaw : Type 0
 LodgeFreeLaw = (m m' : Image) (limit total top : ℕ) (s : State) (a : ℕ) (g : Copied) → Kept (contents m) limit total top s → a ≤ top → Lodges m s a (Ok g) m'
-    → (lodge_step s a).next.free ≡ back s.height g.path ++ drop g.used s.free
+    → (lodge_step s a).next.free ≡ reverse g.path.items ++ drop g.used s.free
 
 -- where it is refused, the state is kept as it was
 abbrev pub LodgeRefusedLaw : Type 0

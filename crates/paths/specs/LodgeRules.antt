@@ -8,7 +8,7 @@ use Rattle.tree.specs.CopyWrites.{Write}
 use Rattle.tree.specs.CopyMoves.{enter}
 use Rattle.tree.specs.CopyLaws.{over_ten}
 use Rattle.tree.specs.CopyPages.{fit_leaf}
-use Rattle.tree.specs.CopyMemory.{place_at, lodge_at, path_at, leaf_at, page_splits_at}
+use Rattle.tree.specs.CopyMemory.{place_at, lodge_at, leaf_at, page_splits_at}
 use Rattle.tree.specs.CopyDescent.{takes, deeper, if_splits}
 use Rattle.faults.specs.declared.fault.Fault.{Fault}
 use Rattle.faults.specs.declared.fault.Fault.TheVariants.{CountFull, HeightFull, Room}
@@ -16,7 +16,7 @@ use Rattle.faults.specs.Accesses.{contents}
 use Rattle.paths.specs.declared.place.Placed.{Placed}
 use Rattle.paths.specs.declared.plan.Plan.{Plan}
 use Rattle.paths.specs.PathsWrites.{Wrote, Unwrites, after_reads}
-use Rattle.paths.specs.PathsReading.{Misread, counted, back}
+use Rattle.paths.specs.PathsReading.{Misread, counted}
 use Rattle.paths.specs.LodgePlaces.{Gives}
 
 -- The questions of a lodge before its first write, of four numbers: the count at the address, the tree's height afterwards
@@ -81,8 +81,3 @@ Lodged m l p a free x (Err f) m' =
     Misread m l p a f m'
     ⊎ ((l ≤ m.charge) × Unlodged (after_reads m l) (count_under l (contents m) p a) (height_under l (contents m) p a x) (takes_under l (contents m) p a x) (length free)
     (lodge_at l (contents m) p a free).writes f m')
-
--- the table has the path, each page at its level less 1
-abbrev pub Traced : Image → ℕ → ℕ → ℕ → Result Placed Fault → List ℕ → Type 0
-Traced m l p a (Ok g) table = back l table ≡ path_at l (contents m) p a
-Traced m l p a (Err f) table = Unit {0}

@@ -1,5 +1,5 @@
 -- Lodge in a whole tree, over every memory: the path's new pages, and a new root where the old one was split.
-use Rattle.std.specs.Prelude.{◌≡◌, ℕ, ◌+◌, ◌≤◌, ◌⊎◌, List, [], length, drop, Ok, Err, Result}
+use Rattle.std.specs.Prelude.{◌≡◌, ℕ, ◌+◌, ◌≤◌, ◌⊎◌, List, [], reverse, length, drop, Ok, Err, Result}
 use Rattle.pages.specs.Image.{Image}
 use Rattle.tree.specs.CopyMoves.{Split, Made}
 use Rattle.tree.specs.CopyMemory.{path_at}
@@ -8,24 +8,29 @@ use Rattle.faults.specs.declared.fault.Fault.{Fault}
 use Rattle.faults.specs.Accesses.{contents}
 use Rattle.paths.specs.declared.copied.Copied.{Copied}
 use Rattle.paths.specs.PathsWrites.{Wrote, Unwrites, after_reads}
-use Rattle.paths.specs.PathsReading.{Misread, back}
+use Rattle.paths.specs.PathsReading.{Misread}
 use Rattle.paths.specs.LodgeRules.{Allowed, Unlodged, count_under}
 
 -- a new root over two pages, or none over one
-abbrev pub Rooted : Made ℕ → ℕ → List ℕ → ℕ → Image → Result Copied Fault → Image → Type 0
-Rooted made height path used m (Ok g) m' =
-    (g.root.page ≡ made.part) × (g.root.level ≡ height) × (g.used ≡ used + length made.writes) × (g.path ≡ path) × Wrote made.writes m m'
-Rooted made height path used m (Err f) m' = Unwrites made.writes m f m'
+pub record RootIs (made : Made ℕ) (high used : ℕ) (m : Image) (g : Copied) (m' : Image) : Type 0 where
+  pub root : g.root.page ≡ made.part
+  pub height : g.root.level ≡ high
+  pub uses : g.used ≡ used + length made.writes
+  pub wrote : Wrote made.writes m m'
 
-abbrev pub Roots : Image → ℕ → Split ℕ → List ℕ → ℕ → List ℕ → Result Copied Fault → Image → Type 0
-Roots m h s free used path r m' = Rooted (new_root_at h s [] (drop used free)) (raised_at s h) path used m r m'
+abbrev pub Rooted : Made ℕ → ℕ → ℕ → Image → Result Copied Fault → Image → Type 0
+Rooted made height used m (Ok g) m' = RootIs made height used m g m'
+Rooted made height used m (Err f) m' = Unwrites made.writes m f m'
+
+abbrev pub Roots : Image → ℕ → Split ℕ → List ℕ → ℕ → Result Copied Fault → Image → Type 0
+Roots m h s free used r m' = Rooted (new_root_at h s [] (drop used free)) (raised_at s h) used m r m'
 
 -- the code's copy of the path of a tree of height h is the theory's
 pub record CopiedTo (u : Update) (old : List ℕ) (h : ℕ) (g : Copied) : Type 0 where
   pub root : g.root.page ≡ u.next.root
   pub height : g.root.level ≡ u.next.height
   pub used : g.used ≡ length u.writes
-  pub path : back h g.path ≡ old
+  pub path : reverse g.path.items ≡ old
 
 abbrev pub LodgedBy : Image → ℕ → ℕ → ℕ → List ℕ → Result Copied Fault → Image → Type 0
 LodgedBy m h p a free (Ok g) m' =

@@ -1,5 +1,5 @@
 -- The path from a page down to the leaf that an address belongs to, read page by page, the upper ones first.
-use Rattle.std.specs.Prelude.{◌≡◌, ℕ, zero, suc, ◌-◌, ◌<◌, ◌≤◌, List, [], ◌∷◌, length, Some, None, Option, slice_index}
+use Rattle.std.specs.Prelude.{◌≡◌, ℕ, suc, ◌-◌, ◌<◌, ◌≤◌, List, reverse, length, Some, None, Option, slice_index}
 use Rattle.pages.specs.declared.fault.StoreFault.TheVariants.{Uncharged}
 use Rattle.pages.specs.Image.{Image}
 use Rattle.layout.specs.declared.visit.Rule.{Rule}
@@ -25,10 +25,9 @@ pub data Misread (m : Image) (l p a : ℕ) (f : Fault) (m' : Image) : Type 0 whe
   refused : (d : ℕ) (x : Access) → f ≡ unread x → Stopped m l p a d x.page x.level → d ≤ m.charge → Refuses (after_reads m d) x.page x.fault → m' ≡ after_reads m d → Misread m l p a f m'
   broken : (d q v : ℕ) (r : Rule) → f ≡ Unsound q r → Stopped m l p a d q v → suc d ≤ m.charge → Breaks (contents m) q v r → m' ≡ after_reads m (suc d) → Misread m l p a f m'
 
--- the first k places of a table, the last one first: with the page of level i + 1 in place i, the path with its upper pages first
-abbrev pub back : ℕ → List ℕ → List ℕ
-back zero xs = []
-back (suc k) xs = slice_index xs k ∷ back k xs
+-- these are the pages of that path, the leaf's first
+abbrev pub IsPath : Image → ℕ → ℕ → ℕ → List ℕ → Type 0
+IsPath m l p a path = reverse path ≡ path_at l (contents m) p a
 
 -- what an index answers for a count: none is 0
 abbrev pub counted : Option ℕ → ℕ

@@ -1,11 +1,11 @@
 -- Withdraw: one event less at an address.
-use Rattle.std.specs.Prelude.{◌≡◌, ℕ, ◌+◌, ◌-◌, ◌≤◌, List, ◌++◌, length, drop, None, Ok, Err, Result}
+use Rattle.std.specs.Prelude.{◌≡◌, ℕ, ◌+◌, ◌-◌, ◌≤◌, List, ◌++◌, reverse, length, drop, None, Ok, Err, Result}
 use Rattle.pages.specs.Image.{Image}
 use Rattle.layout.specs.Edits.{found}
 use Rattle.tree.specs.Tree.{count_at}
 use Rattle.tree.specs.CopyMoves.{State, withdraw_step}
 use Rattle.tree.specs.CopyLaws.{Kept, events_of, path_of, root_of}
-use Rattle.tree.specs.CopyMemory.{path_at, leaf_at}
+use Rattle.tree.specs.CopyMemory.{leaf_at}
 use Rattle.tree.specs.CopyUpdate.{withdraw_by, root_left, height_at}
 use Rattle.faults.specs.declared.fault.Fault.{Fault}
 use Rattle.faults.specs.declared.fault.Fault.TheVariants.{Shut, Outside, Work, Absent, Unread, NoHeader, OtherOrder, Unsound, NoEvent, CountFull, HeightFull, Room, Unwritten}
@@ -14,13 +14,13 @@ use Rattle.paths.specs.declared.left.Left.{Left}
 use Rattle.paths.specs.declared.copied.Copied.{Copied}
 use Rattle.paths.specs.WithdrawEdits.{left_of}
 use Rattle.paths.specs.PathsWrites.{after_reads, Wrote, WritesRunOut}
-use Rattle.paths.specs.PathsReading.{back, RunsOut, KeptAt}
+use Rattle.paths.specs.PathsReading.{IsPath, RunsOut, KeptAt}
 use Rattle.paths.specs.PathsCopies.{LeavesAlone}
 use Rattle.paths.specs.Withdrawals.{Refusal}
 
 -- what is left of the root, as an answer: where nothing is left the tree is empty
-abbrev pub copied_of : Left → ℕ → List ℕ → Copied
-copied_of g h path = record { root = record { page = root_left (left_of g.page); level = height_at (left_of g.page) h }; used = g.used; path = path }
+abbrev pub copied_of : Left → ℕ → Copied
+copied_of g h = record { root = record { page = root_left (left_of g.page); level = height_at (left_of g.page) h }; used = g.used; path = g.path }
 
 -- a path that can be copied: at most six pages, and as many are free
 abbrev pub RoomFor : ℕ → List ℕ → Type 0
@@ -34,7 +34,7 @@ pub record CopiesLeft (m : Image) (h p a : ℕ) (free : List ℕ) (g : Copied) (
   pub root : g.root.page ≡ (withdraw_by h (contents m) p a free).next.root
   pub height : g.root.level ≡ (withdraw_by h (contents m) p a free).next.height
   pub used : g.used ≡ length (withdraw_by h (contents m) p a free).writes
-  pub path : back h g.path ≡ path_at h (contents m) p a
+  pub path : IsPath m h p a g.path.items
   pub wrote : Wrote (withdraw_by h (contents m) p a free).writes (after_reads m h) m'
 
 -- or there is no room, and nothing is read; or the reading, the leaf or a write refuses
@@ -57,7 +57,7 @@ pub record WithdrawDone (m : Image) (s : State) (a : ℕ) (g : Copied) (m' : Ima
   pub root : g.root.page ≡ root_of (withdraw_step s a).next.tree
   pub height : g.root.level ≡ (withdraw_step s a).next.height
   pub used : g.used ≡ length (withdraw_step s a).writes
-  pub path : back s.height g.path ≡ path_of s.tree a
+  pub path : reverse g.path.items ≡ path_of s.tree a
   pub wrote : Wrote (withdraw_step s a).writes (after_reads m s.height) m'
 
 -- Where a state is kept, the answers in the order of the questions: the path is read (9), the point has an event (13), the pages are
@@ -92,7 +92,7 @@ WithdrawNextLaw = (m m' : Image) (limit total top : ℕ) (s : State) (a : ℕ) (
 -- its free list is the old path, the root first, before what is left of the old free list
 abbrev pub WithdrawFreeLaw : Type 0
 WithdrawFreeLaw = (m m' : Image) (limit total top : ℕ) (s : State) (a : ℕ) (g : Copied) → Kept (contents m) limit total top s → s.height ≤ 6
-    → Withdraws m s a (Ok g) m' → (withdraw_step s a).next.free ≡ back s.height g.path ++ drop g.used s.free
+    → Withdraws m s a (Ok g) m' → (withdraw_step s a).next.free ≡ reverse g.path.items ++ drop g.used s.free
 
 -- where it is refused, the state is kept as it was
 abbrev pub WithdrawRefusedLaw : Type 0

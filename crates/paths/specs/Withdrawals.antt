@@ -5,14 +5,14 @@ use Rattle.layout.specs.declared.entry.Entry.{Entry}
 use Rattle.layout.specs.Edits.{found}
 use Rattle.tree.specs.Tree.{Held}
 use Rattle.tree.specs.CopyMoves.{Made}
-use Rattle.tree.specs.CopyMemory.{place_left_at, withdraw_at, path_at, leaf_at}
+use Rattle.tree.specs.CopyMemory.{place_left_at, withdraw_at, leaf_at}
 use Rattle.faults.specs.declared.fault.Fault.{Fault}
 use Rattle.faults.specs.declared.fault.Fault.TheVariants.{NoEvent}
 use Rattle.faults.specs.Accesses.{contents}
 use Rattle.paths.specs.declared.left.Left.{Left}
 use Rattle.paths.specs.WithdrawEdits.{left_of}
 use Rattle.paths.specs.PathsWrites.{after_reads, Wrote, Unwrites}
-use Rattle.paths.specs.PathsReading.{Misread, back}
+use Rattle.paths.specs.PathsReading.{Misread}
 
 -- what the code gives is what is made of the free pages `free`, of which `used` were used before
 pub record Gives (made : Made (Held ℕ)) (free : List ℕ) (used : ℕ) (g : Left) : Type 0 where
@@ -45,8 +45,3 @@ pub record Done (m : Image) (l p a : ℕ) (free : List ℕ) (g : Left) (m' : Ima
 abbrev pub Withdrawn : Image → ℕ → ℕ → ℕ → List ℕ → Result Left Fault → Image → Type 0
 Withdrawn m l p a free (Ok g) m' = Done m l p a free g m'
 Withdrawn m l p a free (Err f) m' = Refusal m l p a free f m'
-
--- the table has the path, each page at its level less 1
-abbrev pub Traced : Image → ℕ → ℕ → ℕ → Result Left Fault → List ℕ → Type 0
-Traced m l p a (Ok g) path = back l path ≡ path_at l (contents m) p a
-Traced m l p a (Err f) path = Unit {0}

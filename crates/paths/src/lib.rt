@@ -7,6 +7,7 @@ pub mod lodge;
 mod page;
 mod place;
 mod plan;
+mod taken;
 pub mod tally;
 pub mod withdraw;
 mod withdraw_edits;

@@ -1,20 +1,21 @@
 // Lodge: one more event at an address, by copying the path to its leaf.
-ghost use Rattle.std.specs.Prelude.{◌≡◌, ℕ, ◌+◌, ◌<◌, ◌≤◌, length};
+ghost use Rattle.std.specs.Prelude.{◌≡◌, ℕ, ◌+◌, ◌<◌, ◌≤◌, length, IfOk};
 ghost use Rattle.records.specs.Free.{numbers};
 ghost use Rattle.layout.specs.Edits.{found};
 ghost use Rattle.layout.specs.Listed.{entries};
 ghost use Rattle.tree.specs.CopyMoves.{enter};
 ghost use Rattle.tree.specs.CopyPages.{fit_leaf, fit_inner, swap};
-ghost use Rattle.paths.specs.PathsReading.{counted};
+ghost use Rattle.paths.specs.PathsReading.{counted, IsPath};
 ghost use Rattle.paths.specs.LodgePlaces.{halves_of, pages_in, Fits};
-ghost use Rattle.paths.specs.LodgeRules.{Leafed, Lodged, Traced};
+ghost use Rattle.paths.specs.LodgeRules.{Leafed, Lodged};
 ghost use Rattle.paths.specs.LodgeTree.{Roots, LodgedBy};
 ghost use Rattle.paths.specs.LodgeKept.{LodgeIs, LodgeNextLaw, LodgeFreeLaw, LodgeRefusedLaw};
 
 use crate::copied::Copied;
-use crate::page::{free_at, read_page, write_items};
+use crate::page::{read_page, write_items};
 use crate::place::{Placed, place};
 use crate::plan::Plan;
+use crate::taken::Taken;
 use crate::tally::{child_in, count_in};
 use faults::fault::Fault;
 use layout::change::{ChildPages, RightHalf};
@@ -57,74 +58,71 @@ fn lodge_leaf<S: PageStore>(
     list: &mut EntryList,
     address: u64,
     plan: Plan,
-    free: &FreeList,
+    taken: Taken,
 ) -> Result<Placed, Fault>
     requires short { length (entries list.old) ≤ 10 }
     requires few { plan.base + plan.extra ≤ 1000 }
-    ensures { Leafed (S.meaning store.old) (entries list.old) address (numbers free.now) plan result (S.meaning store.new) }
+    requires first { taken.used ≡ 0 }
+    ensures leafs { Leafed (S.meaning store.old) (entries list.old) address (numbers taken.entry.free.now) plan result (S.meaning store.new) }
+    ensures path { IfOk result (λ g. g.path ≡ taken.entry.path) }
 {
     if count_in(list, address) >= 65535 {
         return Err(Fault::CountFull);
     }
     enter(list, address);
-    plan.ask(list.len(), free.len())?;
+    plan.ask(list.len(), taken.free.len())?;
     let right = split_leaf(list);
-    place(store, 1, list, right, free, 0)
+    place(store, 1, list, right, taken)
 }
 
-// Lodge at a page of a path, and note the path's pages by their level, the leaf at 0.
+// Lodge at a page of a path.
 fn lodge_at<S: PageStore>(
     store: &mut S,
     at: PageRef,
     address: u64,
     plan: Plan,
     free: &FreeList,
-    path: &mut [u16; 6],
 ) -> Result<Placed, Fault>
     requires one { 1 ≤ at.level }
     requires low { at.level ≤ plan.base }
     requires six { at.level ≤ 6 }
     requires few { plan.base + plan.extra + at.level ≤ 1000 }
     ensures lodges { Lodged (S.meaning store.old) at.level at.page address (numbers free.now) plan result (S.meaning store.new) }
-    ensures path { Traced (S.meaning store.old) at.level at.page address result path.new }
+    ensures path { IfOk result (λ g. IsPath (S.meaning store.old) at.level at.page address g.path.items) }
 {
     let mut list = read_page(store, at)?;
     if at.level == 1 {
-        path[0] = at.page;
-        return lodge_leaf(store, &mut list, address, plan, free);
+        let taken = Taken::none(free).with_old(at.page);
+        return lodge_leaf(store, &mut list, address, plan, taken);
     }
     let child = child_in(&list, at, address);
     let deep = plan.below(list.len());
-    let below = lodge_at(store, child, address, deep, free, path)?;
-    path[at.level as usize - 1] = at.page;
-    let right = renew_child(&mut list, address, below.pages);
-    place(store, at.level, &list, right, free, below.used)
+    let Placed { pages, used, path } = lodge_at(store, child, address, deep, free)?;
+    let taken = Taken { free, used, path }.with_old(at.page);
+    let right = renew_child(&mut list, address, pages);
+    place(store, at.level, &list, right, taken)
 }
 
 // A new root over the two pages of a root that was split.
 fn new_root<S: PageStore>(
     store: &mut S,
     height: u8,
-    placed: Placed,
-    free: &FreeList,
-    path: [u16; 6],
+    pages: ChildPages,
+    mut taken: Taken,
 ) -> Result<Copied, Fault>
-    requires enough { placed.used + 1 ≤ length (numbers free.now) }
+    requires enough { taken.used + 1 ≤ length (numbers taken.free.now) }
     requires low { height ≤ 6 }
-    ensures { Roots (S.meaning store.old) height (pages_in placed.pages) (numbers free.now) placed.used path result (S.meaning store.new) }
+    ensures roots { Roots (S.meaning store.old) height (pages_in pages) (numbers taken.entry.free.now) taken.entry.used result (S.meaning store.new) }
+    ensures path { IfOk result (λ g. g.path ≡ taken.entry.path) }
 {
-    match placed.pages {
-        ChildPages::One(page) => Ok(Copied {
-            root: PageRef {
-                page,
-                level: height,
-            },
-            used: placed.used,
-            path,
-        }),
+    let root = match pages {
+        ChildPages::One(page) => PageRef {
+            page,
+            level: height,
+        },
         ChildPages::Two(left, key, right) => {
             let root = PageRef {
-                page: free_at(free, placed.used),
+                page: taken.next(),
                 level: height + 1,
             };
             let items = [
@@ -135,13 +133,14 @@ fn new_root<S: PageStore>(
                 },
             ];
             write_items(store, root, &items)?;
-            Ok(Copied {
-                root,
-                used: placed.used + 1,
-                path,
-            })
+            root
         }
-    }
+    };
+    Ok(Copied {
+        root,
+        used: taken.used,
+        path: taken.path,
+    })
 }
 
 // The first leaf of an empty tree.
@@ -156,8 +155,9 @@ fn first_leaf<S: PageStore>(
     if free.len() < 7 {
         return Err(Fault::Room);
     }
+    let mut taken = Taken::none(free);
     let root = PageRef {
-        page: free_at(free, 0),
+        page: taken.next(),
         level: 1,
     };
     write_items(
@@ -170,8 +170,8 @@ fn first_leaf<S: PageStore>(
     )?;
     Ok(Copied {
         root,
-        used: 1,
-        path: [0; 6],
+        used: taken.used,
+        path: taken.path,
     })
 }
 
@@ -187,14 +187,13 @@ fn lodge_tree<S: PageStore>(
     if root.level == 0 {
         return first_leaf(store, root.page, address, free);
     }
-    let mut path = [0; 6];
     let plan = Plan {
         base: root.level as usize,
         extra: 1,
         height: root.level + 1,
     };
-    let placed = lodge_at(store, root, address, plan, free, &mut path)?;
-    new_root(store, root.level, placed, free, path)
+    let Placed { pages, used, path } = lodge_at(store, root, address, plan, free)?;
+    new_root(store, root.level, pages, Taken { free, used, path })
 }
 
 // Lodges one event at an address in the tree under this root: writes its new pages to the front of the free pages, leaf

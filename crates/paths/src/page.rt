@@ -1,6 +1,5 @@
 // One page of a path: read with a check, or written from its entries.
-ghost use Rattle.std.specs.Prelude.{◌≡◌, ◌<◌, ◌≤◌, length, Decides, slice_index};
-ghost use Rattle.records.specs.Free.{numbers};
+ghost use Rattle.std.specs.Prelude.{◌≤◌, length, Decides};
 ghost use Rattle.layout.specs.Bytes.{content_of};
 ghost use Rattle.layout.specs.Content.{Own};
 ghost use Rattle.layout.specs.Listed.{entries};
@@ -15,7 +14,6 @@ use layout::reader::PageReader;
 use layout::visit::Rule;
 use layout::writer::write_page;
 use pages::store::PageStore;
-use records::free::FreeList;
 
 // Whether a page has its own number and level.
 fn is_own(bytes: &[u8; 128], at: PageRef) -> bool
@@ -64,12 +62,4 @@ pub(crate) fn write_entries<S: PageStore>(
     ensures { WritesPage (S.meaning store.old) at.level at.page (entries list.now) result (S.meaning store.new) }
 {
     write_items(store, at, list.as_slice())
-}
-
-// The free page at a place, from the front.
-pub(crate) fn free_at(free: &FreeList, i: usize) -> u16
-    requires { i < length (numbers free.now) }
-    ensures { result ≡ slice_index (numbers free.now) i }
-{
-    free.peek(i).unwrap_or(0)
 }

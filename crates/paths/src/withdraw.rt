@@ -1,13 +1,15 @@
 // Withdraw takes one event back: the path is read on the way down, and what remains of it is written on the way up.
-ghost use Rattle.std.specs.Prelude.{◌≡◌, ℕ, ◌+◌, ◌<◌, ◌≤◌, true, false, length};
+ghost use Rattle.std.specs.Prelude.{◌≡◌, ℕ, ◌+◌, ◌<◌, ◌≤◌, true, false, length, IfOk};
 ghost use Rattle.layout.specs.Listed.{entries};
 ghost use Rattle.records.specs.Free.{numbers};
-ghost use Rattle.paths.specs.Withdrawals.{PlacesLeft, Withdrawn, Traced};
-ghost use Rattle.paths.specs.WithdrawRules.{copied_of, RoomFor, Withdrew, WithdrawIs, WithdrawNextLaw, WithdrawFreeLaw, WithdrawRefusedLaw};
+ghost use Rattle.paths.specs.PathsReading.{IsPath};
+ghost use Rattle.paths.specs.Withdrawals.{PlacesLeft, Withdrawn};
+ghost use Rattle.paths.specs.WithdrawRules.{RoomFor, Withdrew, WithdrawIs, WithdrawNextLaw, WithdrawFreeLaw, WithdrawRefusedLaw};
 
 use crate::copied::Copied;
 use crate::left::Left;
-use crate::page::{free_at, read_page, write_entries};
+use crate::page::{read_page, write_entries};
+use crate::taken::Taken;
 use crate::tally::child_in;
 use crate::withdraw_edits::{restore_child, take_one};
 use faults::fault::Fault;
@@ -21,72 +23,53 @@ fn place_left<S: PageStore>(
     store: &mut S,
     level: u8,
     list: &EntryList,
-    free: &FreeList,
-    used: usize,
+    mut taken: Taken,
 ) -> Result<Left, Fault>
     requires few { length (entries list.now) ≤ 10 }
-    requires low { used ≤ 6 }
-    requires room { used < length (numbers free.now) }
-    ensures { PlacesLeft (S.meaning store.old) level (entries list.now) (numbers free.now) used result (S.meaning store.new) }
+    requires room { taken.used < length (numbers taken.free.now) }
+    ensures places { PlacesLeft (S.meaning store.old) level (entries list.now) (numbers taken.entry.free.now) taken.entry.used result (S.meaning store.new) }
+    ensures path { IfOk result (λ g. g.path ≡ taken.entry.path) }
 {
     if list.len() == 0 {
-        return Ok(Left { page: None, used });
+        return Ok(Left {
+            page: None,
+            used: taken.used,
+            path: taken.path,
+        });
     }
-    let page = free_at(free, used);
+    let page = taken.next();
     write_entries(store, PageRef { page, level }, list)?;
     Ok(Left {
         page: Some(page),
-        used: used + 1,
+        used: taken.used,
+        path: taken.path,
     })
 }
 
-// Withdraw at a page of a level. The table gets the path, each page at its level less 1.
+// Withdraw at a page of a path.
 fn withdraw_at<S: PageStore>(
     store: &mut S,
     at: PageRef,
     address: u64,
     free: &FreeList,
-    path: &mut [u16; 6],
 ) -> Result<Left, Fault>
     requires one { 1 ≤ at.level }
     requires six { at.level ≤ 6 }
     requires room { at.level ≤ length (numbers free.now) }
     ensures withdraws { Withdrawn (S.meaning store.old) at.level at.page address (numbers free.now) result (S.meaning store.new) }
-    ensures path { Traced (S.meaning store.old) at.level at.page address result path.new }
+    ensures path { IfOk result (λ g. IsPath (S.meaning store.old) at.level at.page address g.path.items) }
 {
     let mut list = read_page(store, at)?;
     if at.level == 1 {
-        if !take_one(&mut list, address) {
-            return Err(Fault::NoEvent);
-        }
-        path[0] = at.page;
-        return place_left(store, 1, &list, free, 0);
+        take_one(&mut list, address)?;
+        let taken = Taken::none(free).with_old(at.page);
+        return place_left(store, 1, &list, taken);
     }
     let child = child_in(&list, at, address);
-    let below = withdraw_at(store, child, address, free, path)?;
-    path[at.level as usize - 1] = at.page;
-    restore_child(&mut list, address, below.page);
-    place_left(store, at.level, &list, free, below.used)
-}
-
-// The root of the empty tree.
-const EMPTY: PageRef = PageRef { page: 0, level: 0 };
-
-// What is left of the root, as an answer.
-fn copied(left: Left, height: u8, path: [u16; 6]) -> Copied
-    ensures { result ≡ copied_of left height path }
-{
-    Copied {
-        root: left.page.map_or(
-            EMPTY,
-            |page| PageRef {
-                page,
-                level: height,
-            },
-        ),
-        used: left.used,
-        path,
-    }
+    let Left { page, used, path } = withdraw_at(store, child, address, free)?;
+    let taken = Taken { free, used, path }.with_old(at.page);
+    restore_child(&mut list, address, page);
+    place_left(store, at.level, &list, taken)
 }
 
 // Whether a path of this height can be copied: it has at most six pages, and as many are free.
@@ -111,9 +94,8 @@ fn withdraw_path<S: PageStore>(
     if !has_room(root.level, free) {
         return Err(Fault::Room);
     }
-    let mut path = [0; 6];
-    let left = withdraw_at(store, root, address, free, &mut path)?;
-    Ok(copied(left, root.level, path))
+    let left = withdraw_at(store, root, address, free)?;
+    Ok(left.copied(root.level))
 }
 
 // Takes one event back at an address from the tree under this root. Asked in this order, before any write: does the charge

@@ -4,15 +4,19 @@ ghost use Rattle.layout.specs.Listed.{entries};
 ghost use Rattle.tree.specs.CopyPages.{clear};
 ghost use Rattle.paths.specs.WithdrawEdits.{TakesOne, left_of};
 
+use faults::fault::Fault;
 use layout::change::ChildPages;
 use layout::list::EntryList;
 
-// In a leaf: one event less at an address. False, with the list as it was, where there is none.
-pub(crate) fn take_one(list: &mut EntryList, address: u64) -> bool
+// In a leaf: one event less at an address. Refused, with the list as it was, where there is none (13).
+pub(crate) fn take_one(list: &mut EntryList, address: u64) -> Result<(), Fault>
     requires { length (entries list.old) ≤ 10 }
     ensures { TakesOne address (entries list.old) result (entries list.new) }
 {
-    list.remove(address)
+    if !list.remove(address) {
+        return Err(Fault::NoEvent);
+    }
+    Ok(())
 }
 
 // In an inner page: what is left of the child for an address in its place, its new page; or it drops out.

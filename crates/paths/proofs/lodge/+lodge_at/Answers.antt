@@ -1,47 +1,59 @@
-use Rattle.std.proofs.Common.{ℕ, ◌-◌, ◌≤◌, ap, ◌∙◌, arith, rules}
+use Rattle.std.proofs.Common.{ℕ, ◌≤◌, ap, ◌∙◌, arith}
 use Rattle.std.proofs.lemmas.Result.{err_from_is_err_and}
+use Rattle.paths.specs.declared.place.Placed.{Placed}
 use Rattle.paths.specs.declared.plan.Plan.{Plan}
 use Rattle.paths.specs.LodgeRules.{plan_below}
 use Rattle.paths.proofs.PathsReading.{goes}
+use Rattle.paths.proofs.PathsBack.{leaf_path, inner_path, same_path, path_length}
 use Rattle.paths.proofs.LodgeClimbing.{lodge_unread, lodge_leafed, lodge_fails, lodge_climbs, lodge_room}
-use Rattle.paths.proofs.LodgeTracing.{leaf_traced, row_traced}
 use Rattle.paths.proofs.lodge.+lodge_at.Goals as goal
 
-pub returns-in_err-list : goal.returns-in_err-list
-returns-in_err-list g t c =
+pub returns-in_err-list-clause-lodges : goal.returns-in_err-list-clause-lodges
+returns-in_err-list-clause-lodges g t c =
     let p = err_from_is_err_and c.from_residual.result c.from_residual.ensures.1 in
-    rw (p.1, p.2) (record { lodges = lodge_unread _ _ _ _ _ _ c.args.plan _ c.requires.one c.in_err-list.ensures; path = tt })
+    rw (p.1, p.2) (lodge_unread _ _ _ _ _ _ c.args.plan _ c.requires.one c.in_err-list.ensures)
 
-pub returns-then-at-eq1 : goal.returns-then-at-eq1
-returns-then-at-eq1 g t c =
-    let mean = g.S.PageStore.meaning in
-    record {
-      lodges = lodge_leafed _ _ _ _ _ _ _ _ _ c.lodge_leaf.result c.if-at-eq1.true c.in_ok-list.ensures c.lodge_leaf.ensures;
-      path = leaf_traced (mean c.args.store.now) _ _ _ c.lodge_leaf.result _ c.if-at-eq1.true c.told-path;
-    }
+pub returns-then-at-eq1-clause-lodges : goal.returns-then-at-eq1-clause-lodges
+returns-then-at-eq1-clause-lodges g t c =
+    let f = c.with_old-taken.ensures.free ∙ c.none.ensures.free in
+    lodge_leafed _ _ _ _ _ _ _ _ _ c.lodge_leaf.result c.if-at-eq1.true c.in_ok-list.ensures (rw f at c.lodge_leaf.ensures.leafs)
 
-pub returns-in_err-below : goal.returns-in_err-below
-returns-in_err-below g t c =
-    let p = err_from_is_err_and c.from_residual-in_err-below.result c.from_residual-in_err-below.ensures.1 in
+pub returns-then-at-eq1-clause-path : goal.returns-then-at-eq1-clause-path
+returns-then-at-eq1-clause-path g t c =
+    let path : _ = leaf_path (g.S.PageStore.meaning c.args.store.now) _ c.args.at.page c.args.address _ _ c.if-at-eq1.true c.none.ensures.path c.with_old-taken.ensures.path in
+    same_path (λ (x : Placed). x.path) (g.S.PageStore.meaning c.args.store.now) _ _ _ _ c.lodge_leaf.result path c.lodge_leaf.ensures.path
+
+pub returns-in_err-pages-clause-lodges : goal.returns-in_err-pages-clause-lodges
+returns-in_err-pages-clause-lodges g t c =
+    let p = err_from_is_err_and c.from_residual-in_err-pages.result c.from_residual-in_err-pages.ensures.1 in
     let two : 2 ≤ c.args.at.level = omega arith in
     let w = goes _ _ _ _ _ _ _ _ two c.in_ok-list.ensures c.child_in-child.ensures.page c.child_in-child.ensures.level in
-    rw (p.1, p.2) (record { lodges = lodge_fails _ _ _ _ _ _ _ _ _ _ _ _ _ w (c.below-deep.ensures ∙ ap (λ (n : ℕ). plan_below n c.args.plan) c.len.ensures.is) c.in_err-below.ensures.lodges; path = tt })
+    rw (p.1, p.2) (lodge_fails _ _ _ _ _ _ _ _ _ _ _ _ _ w (c.below-deep.ensures ∙ ap (λ (n : ℕ). plan_below n c.args.plan) c.len.ensures.is) c.in_err-pages.ensures.lodges)
 
-pub place-requires : goal.place-requires
-place-requires g t c =
+pub with_old-taken-requires-2 : goal.with_old-taken-requires-2
+with_old-taken-requires-2 g t c =
+    let n = path_length (g.S.PageStore.meaning c.read_page.new.store) c.child_in-child.result.level c.child_in-child.result.page c.args.address c.in_ok-pages.field-0.path.items c.in_ok-pages.ensures.path in
+    omega (arith, n, c.child_in-child.ensures.level, c.requires.six, c.requires.one)
+
+pub place-requires-clause-enough : goal.place-requires-clause-enough
+place-requires-clause-enough g t c =
     let mean = g.S.PageStore.meaning in
-    record {
-      enough = lodge_room (mean c.read_page.new.store) _ _ _ _ _ _ c.in_ok-below.below (omega (arith, c.requires.low, ap (λ (z : Plan). z.base) c.below-deep.ensures)) c.in_ok-below.ensures.lodges;
-      fits = c.renew_child-right.ensures.fits;
-    }
+    let n = lodge_room (mean c.read_page.new.store) _ c.child_in-child.result.level _ _ _ _ c.in_ok-pages.field-0
+    (omega (arith, c.requires.low, c.child_in-child.ensures.level, ap (λ (z : Plan). z.base) c.below-deep.ensures)) c.in_ok-pages.ensures.lodges in
+    rw (c.with_old-taken-2.ensures.used, c.with_old-taken-2.ensures.free) n
 
-pub returns : goal.returns
-returns g t c =
+pub returns-clause-lodges : goal.returns-clause-lodges
+returns-clause-lodges g t c =
     let two : 2 ≤ c.args.at.level = omega arith in
     let w = goes _ _ _ _ _ _ _ _ two c.in_ok-list.ensures c.child_in-child.ensures.page c.child_in-child.ensures.level in
-    record {
-      lodges = lodge_climbs _ _ _ _ _ _ _ _ _ _ _ _ _ c.in_ok-below.below _ c.place.result w
-          (c.below-deep.ensures ∙ ap (λ (n : ℕ). plan_below n c.args.plan) c.len.ensures.is) c.in_ok-below.ensures.lodges
-          c.renew_child-right.ensures.halves c.place.ensures;
-      path = row_traced _ _ _ _ _ _ _ _ c.in_ok-below.below c.place.result _ c.requires.six (search rules) w c.in_ok-below.ensures.path;
-    }
+    lodge_climbs _ _ _ _ _ _ _ _ _ _ _ _ _ c.in_ok-pages.field-0 _ c.place.result w
+    (c.below-deep.ensures ∙ ap (λ (n : ℕ). plan_below n c.args.plan) c.len.ensures.is) c.in_ok-pages.ensures.lodges
+    c.renew_child-right.ensures.halves (rw (c.with_old-taken-2.ensures.used, c.with_old-taken-2.ensures.free) at c.place.ensures.places)
+
+pub returns-clause-path : goal.returns-clause-path
+returns-clause-path g t c =
+    let mean = g.S.PageStore.meaning in
+    let two : 2 ≤ c.args.at.level = omega arith in
+    let w = goes _ _ _ _ _ _ _ _ two c.in_ok-list.ensures c.child_in-child.ensures.page c.child_in-child.ensures.level in
+    let path : _ = inner_path _ _ (mean c.args.store.now) (mean c.read_page.new.store) _ _ _ _ c.in_ok-pages.field-0.path.items _ w c.in_ok-pages.ensures.path c.with_old-taken-2.ensures.path in
+    same_path (λ (x : Placed). x.path) (mean c.args.store.now) _ _ _ _ c.place.result path c.place.ensures.path

@@ -1,4 +1,5 @@
-use Rattle.std.proofs.Common.{arith}
+use Rattle.std.proofs.Common.{ℕ, ap, ◌∙◌, arith}
+use Rattle.arrayvec.specs.ArrayVec.{ArrayVec}
 use Rattle.records.specs.Free.{numbers}
 use Rattle.std.proofs.lemmas.Result.{err_from_is_err_and}
 use Rattle.paths.proofs.LodgeRooting.{first_few, first_refused, first_made}
@@ -10,7 +11,10 @@ returns-then-len-lt7 g c = first_few _ c.args.old c.args.address c.len.result (n
 pub returns-in_err-write_items : goal.returns-in_err-write_items
 returns-in_err-write_items g c =
     let p = err_from_is_err_and c.from_residual.result c.from_residual.ensures.1 in
-    rw (p.1, p.2) (first_refused _ _ c.args.old _ _ c.len.result _ _ c.len.ensures (omega arith) c.free_at.ensures c.in_err-write_items.ensures)
+    let q = rw (c.none-taken.ensures.free, c.none-taken.ensures.used) at c.next.ensures.page in
+    rw (p.1, p.2) (first_refused _ _ c.args.old _ _ c.len.result _ _ c.len.ensures (omega arith) q c.in_err-write_items.ensures)
 
 pub returns : goal.returns
-returns g c = first_made _ _ c.args.old _ _ c.len.result _ _ c.len.ensures (omega arith) c.free_at.ensures c.in_ok-write_items.ensures
+returns g c =
+    let q = rw (c.none-taken.ensures.free, c.none-taken.ensures.used) at c.next.ensures.page in
+    first_made _ _ c.args.old _ _ c.len.result _ _ _ (rw c.none-taken.ensures.used at c.next.ensures.used) (ap (λ (v : ArrayVec ℕ). v.items) c.next.ensures.path ∙ c.none-taken.ensures.path) c.len.ensures (omega arith) q c.in_ok-write_items.ensures

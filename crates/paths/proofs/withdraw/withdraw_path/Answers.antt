@@ -16,4 +16,4 @@ returns-in_err-left g c =
     rw (p.1, p.2) (refusal (c.if-not-has_room.ensures.yes refl) c.in_err-left.ensures.withdraws)
 
 pub returns : goal.returns
-returns g c = root_copied _ _ _ _ _ _ _ c.in_ok-left.left _ (c.if-not-has_room.ensures.yes refl) (omega arith) c.in_ok-left.ensures.withdraws c.in_ok-left.ensures.path c.copied.ensures
+returns g c = root_copied _ _ _ _ _ _ c.in_ok-left.left _ (c.if-not-has_room.ensures.yes refl) (omega arith) c.in_ok-left.ensures.withdraws c.in_ok-left.ensures.path c.copied.ensures
