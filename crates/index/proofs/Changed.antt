@@ -1,5 +1,5 @@
 -- A path copy and the header over it make a step.
-use Rattle.std.proofs.Common.{◌≡◌, ℕ, ◌≤◌, List, [], ◌∷◌, ◌++◌, length, drop, Ok, Err, Result, sym, refl, ◌∙◌, subst, inl, inr, arith}
+use Rattle.std.proofs.Common.{◌≡◌, ℕ, ◌≤◌, List, [], ◌∷◌, ◌++◌, length, drop, Ok, Err, Result, sym, refl, ◌∙◌, subst, inl, inr, arith, reverse}
 use Rattle.std.specs.List.{AllByRecursion}
 use Rattle.pages.specs.Image.{Image, at, written, Writes}
 use Rattle.pages.specs.declared.fault.StoreFault.{StoreFault}
@@ -14,7 +14,6 @@ use Rattle.faults.specs.Accesses.{contents}
 use Rattle.faults.specs.Refusals.{unwritten}
 use Rattle.faults.specs.declared.fault.Fault.{Fault}
 use Rattle.paths.specs.declared.copied.Copied.{Copied}
-use Rattle.paths.specs.PathsReading.{back}
 use Rattle.index.specs.Model.{Call, Answer, State, Known, state, limit, refusal, told}
 use Rattle.index.specs.Model.Answer.{accepted, refused}
 use Rattle.index.specs.Model.Known.{knows}
@@ -30,9 +29,9 @@ use Rattle.index.proofs.Settling.{After}
 
 -- What is known of a path copy that was made, from the memory m to m': the tree t after it is kept there, and the tree f on file still is.
 pub record MadeCopy (o : Order) (m : Image) (f : Filed) (free : List ℕ) (t : TreeState) (total : ℕ) (g : Copied) (m' : Image) : Type 0 where
-  pub root : g.root ≡ root_of t.tree
-  pub height : g.height ≡ t.height
-  pub freed : t.free ≡ back f.height g.path ++ drop g.used free
+  pub root : g.root.page ≡ root_of t.tree
+  pub height : g.root.level ≡ t.height
+  pub freed : t.free ≡ reverse g.path.items ++ drop g.used free
   pub kept : TreeKept (contents m') (limit m) total (top o) t
   pub old : TreeKept (contents m') (limit m) f.total (top o) (tree_state f free)
   pub page : at m' 1 ≡ at m 1
@@ -48,21 +47,21 @@ module _ (o : Order) (m : Image) (k : Known) (f : Filed) (free : List ℕ) (hold
     (Copy : Result Copied Fault → Image → Type 0)
     (rule : (a : Answer) (u : State) (v : Content) → Changes o (state m k) f Copy t total a u v → Does o (filed f) (state m k) a u v call) where
   -- the free list after the header is the new tree's
-  free_after : (g : Copied) (m' : Image) (free' : List ℕ) → MadeCopy o m f free t total g m' → GivenBack g.path f.height (drop g.used free) free' → free' ≡ t.free
+  free_after : (g : Copied) (m' : Image) (free' : List ℕ) → MadeCopy o m f free t total g m' → GivenBack g.path.items (drop g.used free) free' → free' ≡ t.free
   free_after g m' free' made given =
       let range = range_law (contents m') (limit m) total (top o) t made.kept in
       let all = subst (λ (xs : List ℕ). AllByRecursion (λ p. (2 ≤ p) × (p ≤ limit m)) xs) made.freed range.1 in
       let apart = subst (λ (xs : List ℕ). Apart xs) made.freed range.2 in
-      given (all_front (limit m) (back f.height g.path) (drop g.used free) (omega arith) all) apart ∙ sym made.freed
+      given (all_front (limit m) (reverse g.path.items) (drop g.used free) (omega arith) all) apart ∙ sym made.freed
 
   pub sealed : (g : Copied) (m' m'' : Image) (free' : List ℕ) → MadeCopy o m f free t total g m' → Copy (Ok g) m' →
-      WritesHead o m' g.height g.root total (Ok tt) m'' → GivenBack g.path f.height (drop g.used free) free' →
-      Goes o (filed f) (state m k) accepted (state m'' (knows g.height g.root total free')) call
+      WritesHead o m' g.root.level g.root.page total (Ok tt) m'' → GivenBack g.path.items (drop g.used free) free' →
+      Goes o (filed f) (state m k) accepted (state m'' (knows g.root.level g.root.page total free')) call
   sealed g m' m'' free' made copy head given =
       let em : m'' ≡ written m' 1 (header_bytes (header_for o (file_of t total))) =
       head.2 ∙ (λ i. written m' 1 (header_bytes (header_with o (made.height i) (made.root i) total))) in
       let ef = free_after g m' free' made given in
-      let eu : state m'' (knows g.height g.root total free') ≡ state (written m' 1 (header_bytes (header_for o (file_of t total)))) (known_of t total) =
+      let eu : state m'' (knows g.root.level g.root.page total free') ≡ state (written m' 1 (header_bytes (header_for o (file_of t total)))) (known_of t total) =
       λ i. state (em i) (knows (made.height i) (made.root i) total (ef i)) in
       subst (λ (u : State). Goes o (filed f) (state m k) accepted u call) (sym eu)
       (record {
@@ -86,11 +85,11 @@ module _ (o : Order) (m : Image) (k : Known) (f : Filed) (free : List ℕ) (hold
       })
 
   pub unsealed : (g : Copied) (m' m'' : Image) (fault : Fault) → MadeCopy o m f free t total g m' → Copy (Ok g) m' →
-      WritesHead o m' g.height g.root total (Err fault) m'' →
+      WritesHead o m' g.root.level g.root.page total (Err fault) m'' →
       Goes o (filed f) (state m k) (refusal fault) (state m'' k) call
   unsealed g m' m'' fault made copy (e, told, w) =
       subst (λ (y : Fault). Goes o (filed f) (state m k) (refusal y) (state m'' k) call) (sym told)
-      (unpaid g m' m'' e (header_bytes (header_with o g.height g.root total)) made copy w)
+      (unpaid g m' m'' e (header_bytes (header_with o g.root.level g.root.page total)) made copy w)
 
   -- a copy that was refused
   pub not_copied : (fault : Fault) (m' : Image) → Copy (Err fault) m' → at m' 1 ≡ at m 1 → length m'.pages ≡ length m.pages →
@@ -103,7 +102,7 @@ module _ (o : Order) (m : Image) (k : Known) (f : Filed) (free : List ℕ) (hold
 
   -- either way
   pub ended : (g : Copied) (m' m'' : Image) (res : Result (Unit {0}) Fault) (k' : Known) → MadeCopy o m f free t total g m' → Copy (Ok g) m' →
-      WritesHead o m' g.height g.root total res m'' → After res f.height free k g total k' → Goes o (filed f) (state m k) (told res) (state m'' k') call
+      WritesHead o m' g.root.level g.root.page total res m'' → After res free k g total k' → Goes o (filed f) (state m k) (told res) (state m'' k') call
   ended g m' m'' (Ok u) k' made copy head (free', after, given) =
       subst (λ (y : Known). Goes o (filed f) (state m k) accepted (state m'' y) call) (sym after) (sealed g m' m'' free' made copy head given)
   ended g m' m'' (Err fault) k' made copy head after =

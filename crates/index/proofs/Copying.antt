@@ -42,11 +42,10 @@ module _ (o : Order) (m : Image) (h r t : ℕ) (free : List ℕ) (call : Call)
   -- copied, and the header written or not
   pub copied_step : (g : Copied) (m' m'' : Image) (sum : ℕ) (res : Result (Unit {0}) Fault) (k' : Known) → length m'.pages ≡ length m.pages →
       ((f : Filed) → Holds o (state m (knows h r t free)) f → Copy f (Ok g) m' × MadeCopy o m f free (next f) (total f) g m' × (sum ≡ total f)) →
-      WritesHead o m' g.height g.root sum res m'' → After res h free (knows h r t free) g sum k' → Step o (state m (knows h r t free)) (told res) (state m'' k') call
+      WritesHead o m' g.root.level g.root.page sum res m'' → After res free (knows h r t free) g sum k' → Step o (state m (knows h r t free)) (told res) (state m'' k') call
   copied_step g m' m'' sum res k' size facts head after =
-      open_steps o m m'' h r t free (told res) k' call (head_size o m' m'' g.height g.root sum res head ∙ size) (λ f holds.
+      open_steps o m m'' h r t free (told res) k' call (head_size o m' m'' g.root.level g.root.page sum res head ∙ size) (λ f holds.
       let known = facts f holds in
       ended o m (knows h r t free) f free holds (next f) (total f) call (Copy f) (rule f holds) g m' m'' res k' known.1 known.0
-      (subst (λ (n : ℕ). WritesHead o m' g.height g.root n res m'') known.2 head)
-      (subst (λ (n : ℕ). After res f.height free (knows h r t free) g n k') known.2
-      (subst (λ (n : ℕ). After res n free (knows h r t free) g sum k') holds.agrees.0 after)))
+      (subst (λ (n : ℕ). WritesHead o m' g.root.level g.root.page n res m'') known.2 head)
+      (subst (λ (n : ℕ). After res free (knows h r t free) g n k') known.2 after))

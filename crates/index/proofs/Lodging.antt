@@ -137,7 +137,7 @@ module _ (o : Order) (law : Lawful o) (m m' : Image) (h r t : ℕ) (free x : Lis
 
   pub lodge_copied : (g : Copied) (m'' : Image) (sum : ℕ) (res : Result (Unit {0}) Fault) (k' : Known) → LodgeIs m r h a free (Ok g) m' →
       (t + 1 < 4294967296 → sum ≡ t + 1) →
-      WritesHead o m' g.height g.root sum res m'' → After res h free (knows h r t free) g sum k' →
+      WritesHead o m' g.root.level g.root.page sum res m'' → After res free (knows h r t free) g sum k' →
       Step o (state m (knows h r t free)) (told res) (state m'' k') (lodges x)
   lodge_copied g m'' sum res k' is es head after =
       copied_step o m h r t free (lodges x) (λ f. Lodges m (tree_state f free) (o.address x)) (λ f. (lodge_step (tree_state f free) (o.address x)).next) (λ f. suc f.total) rule

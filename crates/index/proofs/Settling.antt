@@ -16,14 +16,14 @@ use Rattle.index.specs.Head.{WritesHead, header_with}
 use Rattle.index.specs.Settled.{Renews}
 use Rattle.index.specs.View.{known_tree}
 
--- `k` was known before, of a tree of height h with these free pages
-abbrev pub After : Result (Unit {0}) Fault → ℕ → List ℕ → Known → Copied → ℕ → Known → Type 0
-After (Ok u) h free k g total k' = (free' : List ℕ) × (k' ≡ knows g.height g.root total free') × GivenBack g.path h (drop g.used free) free'
-After (Err f) h free k g total k' = k' ≡ k
+-- `k` was known before, of a tree with these free pages
+abbrev pub After : Result (Unit {0}) Fault → List ℕ → Known → Copied → ℕ → Known → Type 0
+After (Ok u) free k g total k' = (free' : List ℕ) × (k' ≡ knows g.root.level g.root.page total free') × GivenBack g.path.items (drop g.used free) free'
+After (Err f) free k g total k' = k' ≡ k
 
 pub after_known : (t t' : OpenTree) (g : Copied) (total : ℕ) (res : Result (Unit {0}) Fault) → Renews t g total res t' →
-    After res t.height (numbers t.free) (known_tree t) g total (known_tree t')
-after_known t t' g total (Ok u) r = (numbers t'.free, (λ i. knows (r.height i) (r.root i) (r.total i) (numbers t'.free)), r.free)
+    After res (numbers t.free) (known_tree t) g total (known_tree t')
+after_known t t' g total (Ok u) r = (numbers t'.free, (λ i. knows (r.root i).level (r.root i).page (r.total i) (numbers t'.free)), r.free)
 after_known t t' g total (Err f) r = ap known_tree r
 
 -- the end of a change leaves the number of pages

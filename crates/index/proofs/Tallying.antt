@@ -44,7 +44,7 @@ shut_refused {o} {m} {x} {p} {call} e names = stays o (state m (known_in x)) (re
 pub outside_refused : {o : Order} {m : Image} (t : OpenTree) {p : List ℕ} {call : Call} {f : Fault} → Names p call → LiesOutside o p f →
     Step o (state m (known_tree t)) (refusal f) (state m (known_tree t)) call
 outside_refused {o} {m} t {p} {call} {f} names at =
-    stays o (state m (known_tree t)) (refusal f) call (λ c. outside p t.height t.root t.total (numbers t.free) names refl at.away (ap refusal at.told) refl refl)
+    stays o (state m (known_tree t)) (refusal f) call (λ c. outside p t.root.level t.root.page t.total (numbers t.free) names refl at.away (ap refusal at.told) refl refl)
 
 -- an index that is open has a tree on file, and the path functions find it kept
 pub open_file : (o : Order) (m : Image) (h r t : ℕ) (free : List ℕ) (f : Filed) → Holds o (state m (knows h r t free)) f →

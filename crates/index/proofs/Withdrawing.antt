@@ -84,7 +84,7 @@ module _ (o : Order) (m m' : Image) (h r t : ℕ) (free x : List ℕ) (a : ℕ) 
       ))
 
   pub withdraw_copied : (g : Copied) (m'' : Image) (sum : ℕ) (res : Result (Unit {0}) Fault) (k' : Known) → WithdrawIs m r h a free (Ok g) m' → sum ≡ t - 1 →
-      WritesHead o m' g.height g.root sum res m'' → After res h free (knows h r t free) g sum k' →
+      WritesHead o m' g.root.level g.root.page sum res m'' → After res free (knows h r t free) g sum k' →
       Step o (state m (knows h r t free)) (told res) (state m'' k') (withdraws x)
   withdraw_copied g m'' sum res k' is es head after =
       copied_step o m h r t free (withdraws x) (λ f. Withdraws m (tree_state f free) (o.address x)) (λ f. (withdraw_step (tree_state f free) (o.address x)).next) (λ f. f.total - 1) rule

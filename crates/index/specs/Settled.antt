@@ -8,11 +8,10 @@ use Rattle.index.specs.Freed.{GivenBack}
 
 -- the new tree, after the copy g of the tree t
 pub record Renewed (t : OpenTree) (g : Copied) (sum : ℕ) (t' : OpenTree) : Type 0 where
-  pub height : t'.height ≡ g.height
   pub root : t'.root ≡ g.root
   pub total : t'.total ≡ sum
   -- the free list has lost what the copy used and has the old path at its front
-  pub free : GivenBack g.path t.height (drop g.used (numbers t.free)) (numbers t'.free)
+  pub free : GivenBack g.path.items (drop g.used (numbers t.free)) (numbers t'.free)
 
 -- where the write of page 1 is refused, nothing changes
 abbrev pub Renews : OpenTree → Copied → ℕ → Result (Unit {0}) Fault → OpenTree → Type 0

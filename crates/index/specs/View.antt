@@ -8,7 +8,7 @@ use Rattle.index.specs.Model.{State, Known, state}
 use Rattle.index.specs.Model.Known.{shut, knows}
 
 abbrev pub known_tree : OpenTree → Known
-known_tree t = knows t.height t.root t.total (numbers t.free)
+known_tree t = knows t.root.level t.root.page t.total (numbers t.free)
 
 abbrev pub known_in : Option OpenTree → Known
 known_in None = shut

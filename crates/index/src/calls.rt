@@ -10,6 +10,7 @@ ghost use Rattle.index.specs.View.{view};
 use crate::head::write_head;
 use crate::index::{Index, OpenTree};
 use faults::fault::Fault;
+use layout::page_ref::EMPTY;
 use orders::order::PointOrder;
 use pages::store::PageStore;
 use records::free::FreeList;
@@ -34,10 +35,9 @@ impl<S: PageStore, O: PointOrder> Index<S, O> {
         ensures order { self.new.order ≡ self.old.order }
     {
         let last = last_usable(self.store.size());
-        write_head(&mut self.store, &self.order, 0, 0, 0)?;
+        write_head(&mut self.store, &self.order, EMPTY, 0)?;
         self.tree = Some(OpenTree {
-            height: 0,
-            root: 0,
+            root: EMPTY,
             total: 0,
             free: FreeList::rising(2, last, &[false; 1026]),
         });

@@ -14,12 +14,11 @@ pub(crate) fn take_used(free: &mut FreeList, used: usize)
     }
 }
 
-// Puts the old path's pages to the front, the leaf's first.
-pub(crate) fn give_back(free: &mut FreeList, path: &[u16; 6], height: u8)
-    ensures { GivenBack path.now height (numbers free.old) (numbers free.new) }
+// Puts the old path's pages to the front, one after another.
+pub(crate) fn give_back(free: &mut FreeList, path: &[u16])
+    ensures { GivenBack path.now (numbers free.old) (numbers free.new) }
 {
-    let levels = path.len().min(height as usize);
-    for page in &path[..levels] {
-        let _ = free.put_front(*page);
+    for &page in path {
+        let _ = free.put_front(page);
     }
 }

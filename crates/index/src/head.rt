@@ -6,8 +6,8 @@ ghost use Rattle.index.specs.Keeping.{Ours, top};
 
 use faults::access::{fetch, put};
 use faults::fault::Fault;
-use layout::header::{Header, read_header, write_header};
-use layout::page_ref::HEADER;
+use layout::header::Header;
+use layout::page_ref::{HEADER, PageRef};
 use orders::order::PointOrder;
 use pages::store::PageStore;
 
@@ -27,34 +27,31 @@ pub(crate) fn read_head<S: PageStore, O: PointOrder>(
 {
     let mut page = [0; 128];
     fetch(store, HEADER, &mut page)?;
-    let header = read_header(&page).ok_or(Fault::NoHeader)?;
+    let header = Header::try_from(&page).map_err(|_| Fault::NoHeader)?;
     if !is_ours(order, &header) {
         return Err(Fault::OtherOrder);
     }
     Ok(header)
 }
 
-// Writes page 1: the header of a tree of this order, at this height and root, with so many events.
+// Writes page 1: the header of a tree of this order, with this root and so many events.
 pub(crate) fn write_head<S: PageStore, O: PointOrder>(
     store: &mut S,
     order: &O,
-    height: u8,
-    root: u16,
+    root: PageRef,
     total: u32,
 ) -> Result<(), Fault>
-    ensures { WritesHead (O.PointOrder.meaning order.now) (S.PageStore.meaning store.old) height root total result (S.PageStore.meaning store.new) }
+    ensures { WritesHead (O.PointOrder.meaning order.now) (S.PageStore.meaning store.old) root.level root.page total result (S.PageStore.meaning store.new) }
 {
     let header = Header {
         kind: order.kind(),
         n: order.n(),
         p: order.p(),
-        height,
-        root,
+        height: root.level,
+        root: root.page,
         total,
     };
-    let mut page = [0; 128];
-    write_header(&mut page, header);
-    put(store, HEADER, &page)
+    put(store, HEADER, &header.into())
 }
 
 // The greatest address.

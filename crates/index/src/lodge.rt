@@ -23,7 +23,7 @@ impl<S: PageStore, O: PointOrder> Index<S, O> {
             return Err(Fault::Shut);
         };
         let address = located(&self.order, x)?;
-        let copied = lodge(&mut self.store, tree.root, tree.height, address, &tree.free)?;
+        let copied = lodge(&mut self.store, tree.root, address, &tree.free)?;
         let total = tree.total.saturating_add(1);
         tree.settle(&mut self.store, &self.order, copied, total)
     }

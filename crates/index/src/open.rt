@@ -9,6 +9,7 @@ ghost use Rattle.index.specs.View.{view};
 use crate::head::{read_head, top_of};
 use crate::index::{Index, OpenTree};
 use faults::fault::Fault;
+use layout::page_ref::PageRef;
 use orders::order::PointOrder;
 use pages::store::PageStore;
 use records::free::FreeList;
@@ -43,8 +44,10 @@ impl<S: PageStore, O: PointOrder> Index<S, O> {
             &mut marks,
         )?;
         self.tree = Some(OpenTree {
-            height: header.height,
-            root: header.root,
+            root: PageRef {
+                page: header.root,
+                level: header.height,
+            },
             total: header.total,
             free: FreeList::rising(2, last, &marks),
         });

@@ -12,7 +12,6 @@ use crate::head::top_of;
 use crate::index::Index;
 use crate::located::located;
 use faults::fault::Fault;
-use layout::page_ref::PageRef;
 use orders::order::PointOrder;
 use orders::space::QueryBox;
 use pages::store::PageStore;
@@ -60,15 +59,11 @@ impl<S: PageStore, O: PointOrder> Index<S, O> {
         located(&self.order, query.low())?;
         located(&self.order, query.high())?;
         let top = top_of(&self.order);
-        let root = PageRef {
-            page: tree.root,
-            level: tree.height,
-        };
         let request = Request {
             order: &self.order,
             query,
             start,
         };
-        Ok(search(&mut self.store, &request, root, top, memory))
+        Ok(search(&mut self.store, &request, tree.root, top, memory))
     }
 }

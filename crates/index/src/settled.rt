@@ -19,13 +19,12 @@ impl OpenTree {
         copied: Copied,
         total: u32,
     ) -> Result<(), Fault>
-        ensures header { WritesHead (O.PointOrder.meaning order.now) (S.PageStore.meaning store.old) copied.height copied.root total result (S.PageStore.meaning store.new) }
+        ensures header { WritesHead (O.PointOrder.meaning order.now) (S.PageStore.meaning store.old) copied.root.level copied.root.page total result (S.PageStore.meaning store.new) }
         ensures tree { Renews self.old copied total result self.new }
     {
-        write_head(store, order, copied.height, copied.root, total)?;
+        write_head(store, order, copied.root, total)?;
         take_used(&mut self.free, copied.used);
-        give_back(&mut self.free, &copied.path, self.height);
-        self.height = copied.height;
+        give_back(&mut self.free, copied.path.as_slice());
         self.root = copied.root;
         self.total = total;
         Ok(())

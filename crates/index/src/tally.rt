@@ -23,6 +23,6 @@ impl<S: PageStore, O: PointOrder> Index<S, O> {
             return Err(Fault::Shut);
         };
         let address = located(&self.order, x)?;
-        tally(&mut self.store, tree.root, tree.height, address)
+        tally(&mut self.store, tree.root, address)
     }
 }

@@ -24,7 +24,7 @@ impl<S: PageStore, O: PointOrder> Index<S, O> {
             return Err(Fault::Shut);
         };
         let address = located(&self.order, x)?;
-        let copied = withdraw(&mut self.store, tree.root, tree.height, address, &tree.free)?;
+        let copied = withdraw(&mut self.store, tree.root, address, &tree.free)?;
         let total = tree.total.saturating_sub(1);
         tree.settle(&mut self.store, &self.order, copied, total)
     }

@@ -5,5 +5,8 @@ pub struct PageRef {
     pub level: u8,
 }
 
+// The root of the empty tree.
+pub const EMPTY: PageRef = PageRef { page: 0, level: 0 };
+
 // The header's page.
 pub const HEADER: PageRef = PageRef { page: 1, level: 0 };

@@ -4,7 +4,7 @@ ghost use Rattle.paths.specs.WithdrawRules.{copied_of};
 
 use crate::copied::Copied;
 use arrayvec::ArrayVec;
-use layout::page_ref::PageRef;
+use layout::page_ref::{EMPTY, PageRef};
 
 // Its new page, or none; how many of the free pages are used; and the old pages from the leaf to it.
 #[derive(Drop, PartialEq, Eq, Debug)]
@@ -13,9 +13,6 @@ pub struct Left {
     pub used: usize,
     pub path: ArrayVec<u16, 6>,
 }
-
-// The root of the empty tree.
-const EMPTY: PageRef = PageRef { page: 0, level: 0 };
 
 impl Left {
     // What is left of the root of a tree of this height, as an answer.

@@ -3,13 +3,11 @@ use Rattle.std.proofs.Common.{◌≡◌, ℕ, zero, suc, ◌+◌, ◌-◌, ◌*�
 use Rattle.std.specs.List.{AllByRecursion}
 use Rattle.std.proofs.lemmas.List.{get_or-set_same, get_or-set_other, length-set, length-replicate, length-reverse, length-take-le}
 use Rattle.std.proofs.lemmas.Bool.{cases_eq, eq-eqb, ne_eqb, cond-true, cond-false, both_ways, not-false}
-use Rattle.layout.specs.declared.rules.PageRule.{PageRule}
-use Rattle.layout.specs.declared.rules.PageRule.TheVariants.{B as page_B, C as page_C, D as page_D, E as page_E}
 use Rattle.records.specs.Tray.{Lays, Lifts}
 use Rattle.pages.specs.Image.{Image, spent, granted}
+use Rattle.layout.specs.declared.visit.Rule.TheVariants.{A, B, C, D, E, F}
 use Rattle.layout.specs.declared.visit.Visit.{Visit}
 use Rattle.layout.specs.declared.visit.Rule.{Rule}
-use Rattle.layout.specs.declared.visit.Rule.TheVariants.{A}
 use Rattle.tree.specs.Tree.{Contents, Absent as NotIn, Apart}
 use Rattle.tree.specs.Scan.{visit, Outcome, accepted, refused, uncharged, Turn, breaks, onward, absent, admits, charged, judged, turn, left_at, follow, scan, start}
 use Rattle.tree.proofs.ScanTests.{absent_decides, admits_decides}
@@ -20,7 +18,7 @@ use Rattle.faults.specs.Accesses.{contents}
 use Rattle.faults.specs.declared.fault.Fault.{Fault}
 use Rattle.faults.specs.declared.fault.Fault.TheVariants.{Shut, Outside, Work, Absent, Unread, NoHeader, OtherOrder, Unsound, NoEvent, CountFull, HeightFull, Room, Unwritten}
 use Rattle.walks.specs.Pending.{to_come}
-use Rattle.walks.specs.Visits.{rule_of_lem, Visits}
+use Rattle.walks.specs.Visits.{OfPage, Visits}
 use Rattle.walks.specs.Scans.{Marked, Accepts, Refuses}
 use Rattle.walks.proofs.ChildVisits.{put_next}
 use Rattle.faults.proofs.Same.{same_contents}
@@ -147,15 +145,16 @@ module _ {m : Contents} {limit : ℕ} {o : Outcome} {charge : ℕ} {marks : List
       paid : (t : Turn) → 0 < charge → judged (m v.page) v ≡ t → turn m limit charge ms v ≡ t
       paid t p j = let s : charge ≡ suc (charge - 1) = omega arith in admitted ∙ ap (λ c. charged c (judged (m v.page) v)) s ∙ j
 
-      after_read : (x : PageRule) → left_at (rule_of_lem x) charge ≡ charge - 1
-      after_read page_B = refl
-      after_read page_C = refl
-      after_read page_D = refl
-      after_read page_E = refl
+      after_read : (r : Rule) → OfPage r → left_at r charge ≡ charge - 1
+      after_read A h = absurd h
+      after_read B h = refl
+      after_read C h = refl
+      after_read D h = refl
+      after_read E h = refl
+      after_read F h = absurd h
 
-      pub broken : (r : Rule) (x : PageRule) → r ≡ rule_of_lem x → 0 < charge → judged (m v.page) v ≡ breaks r → o ≡ refused v.page r (charge - 1)
-      broken r x e p j =
-          sym next ∙ ap (λ t. follow charge v t after) (paid (breaks r) p j) ∙ ap (refused v.page r) (ap (λ y. left_at y charge) e ∙ after_read x)
+      pub broken : (r : Rule) → OfPage r → 0 < charge → judged (m v.page) v ≡ breaks r → o ≡ refused v.page r (charge - 1)
+      broken r h p j = sym next ∙ ap (λ t. follow charge v t after) (paid (breaks r) p j) ∙ ap (refused v.page r) (after_read r h)
 
       marks_more : (p : ℕ) → v.page < length marks → get_or (set marks v.page true) p false ≡ not (absent p (v.page ∷ ms))
       marks_more p l =
@@ -206,7 +205,7 @@ module _ (m₀ m : Image) {limit : ℕ} {o : Outcome} {marks : List Bool} {stack
       pub visit_refused : (f : Fault) (m' : Image) (stack' : List Visit) → Visits m v st (Err f) m' stack' → Refuses o m₀ f m'
       visit_refused (Unsound p r) m' stack' h = (
         m.charge - 1,
-        broken w n low high new r h.3.1.0 h.3.1.1 h.0 (subst (λ (k : Contents). judged (k v.page) v ≡ breaks r) (same_contents m₀ m e) h.3.0) ∙ ap (λ q. refused q r (m.charge - 1)) (sym h.2),
+        broken w n low high new r h.3.1 h.0 (subst (λ (k : Contents). judged (k v.page) v ≡ breaks r) (same_contents m₀ m e) h.3.0) ∙ ap (λ q. refused q r (m.charge - 1)) (sym h.2),
         h.1 ∙ as_granted m₀ (spent m) (m.charge - 1) e refl,
       )
       visit_refused (Unread a) m' stack' h = (v.page, v.level, unread w n low high new h.0, h.2, h.1 ∙ as_granted m₀ m 0 e h.0)

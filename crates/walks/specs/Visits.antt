@@ -1,30 +1,31 @@
 -- What comes of one visit, and what it does to the visits to come.
 use Rattle.std.specs.Prelude.{◌≡◌, ℕ, ◌<◌, ◌≤◌, List, ◌++◌, Ok, Err, Result}
 use Rattle.layout.specs.Content.{Content}
-use Rattle.layout.specs.declared.rules.PageRule.{PageRule}
-use Rattle.layout.specs.declared.rules.PageRule.TheVariants.{B as page_B, C as page_C, D as page_D, E as page_E}
 use Rattle.pages.specs.Image.{Image, Lacks, spent}
 use Rattle.pages.specs.declared.fault.StoreFault.TheVariants.{Uncharged}
 use Rattle.layout.specs.declared.visit.Visit.{Visit}
 use Rattle.layout.specs.declared.visit.Rule.{Rule}
-use Rattle.layout.specs.declared.visit.Rule.TheVariants.{B, C, D, E}
+use Rattle.layout.specs.declared.visit.Rule.TheVariants.{A, B, C, D, E, F}
 use Rattle.tree.specs.Scan.{judged, breaks, onward}
 use Rattle.faults.specs.Accesses.{contents}
 use Rattle.faults.specs.declared.fault.Access.{Access}
 use Rattle.faults.specs.declared.fault.Fault.{Fault}
 use Rattle.faults.specs.declared.fault.Fault.TheVariants.{Shut, Outside, Work, Absent, Unread, NoHeader, OtherOrder, Unsound, NoEvent, CountFull, HeightFull, Room, Unwritten}
 
-abbrev pub rule_of_lem : PageRule → Rule
-rule_of_lem page_B = B
-rule_of_lem page_C = C
-rule_of_lem page_D = D
-rule_of_lem page_E = E
+-- a rule that one page can show by itself
+abbrev pub OfPage : Rule → Type 0
+OfPage A = ⊥
+OfPage B = Unit {0}
+OfPage C = Unit {0}
+OfPage D = Unit {0}
+OfPage E = Unit {0}
+OfPage F = ⊥
 
 -- A page that says c, asked for a visit with `stack` to come after it. It keeps its rules: it adds n (ten counts of 65,535 at most), and its
 -- visits come before the others. It breaks one of B to E: nothing changes.
 abbrev pub Judges : Content → Visit → List Visit → Result ℕ Rule → List Visit → Type 0
 Judges c v stack (Ok n) stack' = ((vs : List Visit) × (judged c v ≡ onward n vs) × (stack' ≡ vs ++ stack)) × (n ≤ 655350)
-Judges c v stack (Err r) stack' = (judged c v ≡ breaks r) × ((x : PageRule) × (r ≡ rule_of_lem x)) × (stack' ≡ stack)
+Judges c v stack (Err r) stack' = (judged c v ≡ breaks r) × OfPage r × (stack' ≡ stack)
 
 -- the page, its level and the fault of a read that the charge does not carry
 abbrev pub UnchargedAt : Access → ℕ → ℕ → Type 0

@@ -6,8 +6,8 @@ ghost use Rattle.tree.specs.Scan.{visit, child_visits};
 ghost use Rattle.walks.specs.Pending.{to_come};
 
 use layout::entry::Entry;
-use records::tray::Tray;
 use layout::visit::Visit;
+use records::tray::Tray;
 
 fn count_of(e: Entry) -> u32
     ensures is { result ≡ e.value }

@@ -7,9 +7,9 @@ ghost use Rattle.walks.specs.Scans.{last_page, ScansPages, Scans};
 use crate::scanning::Seen;
 use crate::visiting::visit_page;
 use faults::fault::Fault;
+use layout::visit::{Rule, Visit};
 use pages::store::PageStore;
 use records::tray::Tray;
-use layout::visit::{Rule, Visit};
 
 // The last page that is used: `limit`, but no page past the store's last or past 1,024.
 fn last_used(limit: u16, size: u16) -> u16

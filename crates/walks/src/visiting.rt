@@ -2,28 +2,17 @@
 ghost use Rattle.std.specs.Prelude.{◌≡◌, ◌+◌, ◌≤◌, length};
 ghost use Rattle.layout.specs.Bytes.{content_of};
 ghost use Rattle.walks.specs.Pending.{to_come};
-ghost use Rattle.walks.specs.Visits.{rule_of_lem, Judges, Visits};
+ghost use Rattle.walks.specs.Visits.{Judges, Visits};
 
 use crate::children::{counted, put_children};
 use faults::access::fetch;
 use faults::fault::Fault;
 use layout::list::EntryList;
 use layout::page_ref::PageRef;
-use layout::rules::{PageRule, check_page};
+use layout::rules::check_page;
+use layout::visit::{Rule, Visit};
 use pages::store::PageStore;
 use records::tray::Tray;
-use layout::visit::{Rule, Visit};
-
-fn rule_of(rule: PageRule) -> Rule
-    ensures { result ≡ rule_of_lem rule }
-{
-    match rule {
-        PageRule::B => Rule::B,
-        PageRule::C => Rule::C,
-        PageRule::D => Rule::D,
-        PageRule::E => Rule::E,
-    }
-}
 
 // Asks a page that was read for rules B to E. A leaf that keeps them answers the sum of its counts; an inner page puts its children's visits
 // on those that are pending, and answers 0.
@@ -34,9 +23,7 @@ fn judge(page: &[u8; 128], v: Visit, pending: &mut Tray<'_, Visit>) -> Result<u3
         result (to_come pending.new.memory.now pending.new.used) }
     ensures size { length pending.new.memory.now ≡ length pending.old.memory.now }
 {
-    if let Err(rule) = check_page(page, v.page, v.level, v.lo, v.hi) {
-        return Err(rule_of(rule));
-    }
+    check_page(page, v)?;
     let list = EntryList::of_page(page);
     if v.level == 1 {
         return Ok(counted(list.as_slice()));

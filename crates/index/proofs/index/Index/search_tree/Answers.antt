@@ -24,5 +24,5 @@ pub returns-clause-step : goal.returns-clause-step
 returns-clause-step g c =
     let t = c.in-Some.tree in
     on_tree c.in-Some.is
-    (searched_at _ _ _ t.height t.root t.total (numbers t.free) _ _ (inside_at (ap (λ (p : Point). p.coords) c.low.ensures) c.in_ok-located.ensures)
+    (searched_at _ _ _ t.root.level t.root.page t.total (numbers t.free) _ _ (inside_at (ap (λ (p : Point). p.coords) c.low.ensures) c.in_ok-located.ensures)
     (inside_at (ap (λ (p : Point). p.coords) c.high.ensures) c.in_ok-located-2.ensures) c.top_of-top.ensures c.search.ensures)

@@ -15,4 +15,4 @@ returns-in_err-address-clause-step g c =
 pub returns-clause-step : goal.returns-clause-step
 returns-clause-step g c =
     let t = c.in-Some.tree in
-    on_tree c.in-Some.is (tally_steps _ _ _ t.height t.root t.total (numbers t.free) _ _ _ c.in_ok-address.ensures c.tally.ensures)
+    on_tree c.in-Some.is (tally_steps _ _ _ t.root.level t.root.page t.total (numbers t.free) _ _ _ c.in_ok-address.ensures c.tally.ensures)
