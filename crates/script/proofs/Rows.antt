@@ -1,5 +1,5 @@
 -- Rows of words and the numbers that they write.
-use Rattle.std.proofs.Common.{◌≡◌, ℕ, ◌+◌, ◌-◌, ◌/◌, ◌%◌, ◌^◌, ◌<◌, List, [], ◌∷◌, ◌++◌, length, get_or, take, drop, Some, None, sym, ap, ◌∙◌, subst, inl, inr, arith, ext_get_or, Bor}
+use Rattle.std.proofs.Common.{◌≡◌, ℕ, ◌+◌, ◌-◌, ◌/◌, ◌%◌, ◌^◌, ◌<◌, List, [], ◌∷◌, ◌++◌, length, get_or, take, drop, Some, None, Option, sym, ap, ◌∙◌, subst, inl, inr, arith, ext_get_or, Bor}
 use Rattle.std.proofs.lemmas.List.{get_or-map, length-map, take-map, drop-map, get_or_append_left, get_or_push}
 use Rattle.std.proofs.lemmas.Bool.{cases_lt}
 use Rattle.orders.specs.declared.point.Point.{Point}
@@ -8,7 +8,7 @@ use Rattle.script.specs.Words.{texts, Numbers, Written, NoPoint, Ends, NoBox}
 use Rattle.script.specs.declared.trouble.Trouble.{Trouble}
 use Rattle.script.specs.declared.trouble.Trouble.TheVariants.{Refused, Unclear, Memory}
 
-abbrev M : ℕ
+abbrev pub M : ℕ
 M = 2 ^ 64 - 1
 
 -- what a place past the end would hold
@@ -18,6 +18,10 @@ past = record { ref_ptr = (0, 0); now = [] }
 -- the bytes of the word in the place k
 pub text_at : (ws : List (Bor (List ℕ))) (k : ℕ) → k < length ws → get_or (texts ws) k [] ≡ (get_or ws k past).now
 text_at ws k lt = get_or-map (λ (v : Bor (List ℕ)). v.now) ws k past [] lt
+
+-- the word in the place k writes the number that its text writes, or none
+pub number_at : (ws : List (Bor (List ℕ))) (k : ℕ) (v : Option ℕ) → k < length ws → NumberIs (get_or ws k past).now M v → NumberIs (get_or (texts ws) k []) M v
+number_at ws k v lt = subst (λ (t : List ℕ). NumberIs t M v) (sym (text_at ws k lt))
 
 -- one number more
 pub one_more : (ts : List (List ℕ)) (vs us : List ℕ) (k v : ℕ) → length vs ≡ k → us ≡ vs ++ v ∷ [] → NumberIs (get_or ts k []) M (Some v) → ((i : ℕ) → i < k → NumberIs (get_or ts i []) M (Some (get_or vs i 0)))
