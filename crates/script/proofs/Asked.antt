@@ -1,5 +1,5 @@
 -- The questions that words write.
-use Rattle.std.proofs.Common.{◌≡◌, ℕ, ◌+◌, ◌-◌, ◌^◌, ◌<◌, ◌≤◌, List, [], length, get_or, take, Some, None, Err, codes, sym, ap, ◌∙◌, subst, arith, Bor}
+use Rattle.std.proofs.Common.{◌≡◌, ℕ, ◌+◌, ◌-◌, ◌≤◌, List, [], length, get_or, take, Some, None, Err, codes, sym, ap, ◌∙◌, subst, arith, Bor}
 use Rattle.std.proofs.lemmas.List.{length-map, take-map}
 use Rattle.orders.specs.declared.space.QueryBox.{QueryBox}
 use Rattle.script.specs.Numbers.{NumberIs}

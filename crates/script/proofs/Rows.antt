@@ -1,10 +1,10 @@
 -- Rows of words and the numbers that they write.
-use Rattle.std.proofs.Common.{◌≡◌, ℕ, ◌+◌, ◌-◌, ◌/◌, ◌%◌, ◌^◌, ◌<◌, List, [], ◌∷◌, ◌++◌, length, get_or, take, drop, Some, None, Option, sym, ap, ◌∙◌, subst, inl, inr, arith, ext_get_or, Bor}
+use Rattle.std.proofs.Common.{◌≡◌, ℕ, ◌+◌, ◌-◌, ◌/◌, ◌%◌, ◌^◌, ◌<◌, List, [], ◌∷◌, ◌++◌, length, get_or, take, drop, Some, Option, sym, ap, ◌∙◌, subst, inl, inr, arith, Bor}
 use Rattle.std.proofs.lemmas.List.{get_or-map, length-map, take-map, drop-map, get_or_append_left, get_or_push}
 use Rattle.std.proofs.lemmas.Bool.{cases_lt}
 use Rattle.orders.specs.declared.point.Point.{Point}
-use Rattle.script.specs.Numbers.{NumberIs, PointIs}
-use Rattle.script.specs.Words.{texts, Numbers, Written, NoPoint, Ends, NoBox}
+use Rattle.script.specs.Numbers.{NumberIs}
+use Rattle.script.specs.Words.{texts, Written, NoPoint, Ends, NoBox}
 use Rattle.script.specs.declared.trouble.Trouble.{Trouble}
 use Rattle.script.specs.declared.trouble.Trouble.TheVariants.{Refused, Unclear, Memory}
 
