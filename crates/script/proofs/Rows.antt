@@ -32,11 +32,6 @@ one_more ts vs us k v len us-is here before i lt =
       | inr past ↦ let e : i ≡ k = omega arith in rw e (rw (get_or_push vs v 0 k len) here)
     ])
 
--- too few words or too many
-pub wrong_number : (n : ℕ) (ts : List (List ℕ)) → (length ts ≡ n → ⊥) → (length ts ≡ 4 → ⊥) → (x : Point) → Written n ts x → ⊥
-wrong_number n ts not-n not-four x w =
-    elim w.2.0.1 [ inl e ↦ not-n (sym w.1.0 ∙ e) | inr e ↦ not-four (sym w.1.0 ∙ e) ]
-
 -- The two halves of the words of a box.
 module _ (ws : List (Bor (List ℕ))) where
   low_half : texts (take (length ws / 2) ws) ≡ take (length ws / 2) (texts ws)
