@@ -1,5 +1,5 @@
 // Spaces of at most four coordinates, and boxes.
-ghost use Rattle.std.specs.Prelude.{◌≡◌, ℕ, ◌+◌, ◌-◌, ◌*◌, ◌/◌, ◌%◌, ◌^◌, ◌<◌, ◌≤◌, true, false, length, MatchResult, slice_index, Decides};
+ghost use Rattle.std.specs.Prelude.{◌≡◌, ℕ, ◌+◌, ◌-◌, ◌*◌, ◌/◌, ◌%◌, ◌^◌, ◌<◌, ◌≤◌, MatchResult, slice_index, Decides};
 ghost use Rattle.orders.specs.Spaces.{Range, InSpace, Ordered, Within};
 ghost use Rattle.orders.specs.declared.refusal.Refusal.TheVariants.{SpaceRange, BoxEnds};
 

@@ -1,5 +1,5 @@
 -- The questions that words write.
-use Rattle.std.proofs.Common.{◌≡◌, ℕ, ◌+◌, ◌-◌, ◌^◌, ◌<◌, ◌≤◌, List, [], length, get_or, take, Some, None, Err, codes, sym, ap, ◌∙◌, subst, arith, Bor}
+use Rattle.std.proofs.Common.{◌≡◌, ℕ, ◌+◌, ◌-◌, ◌≤◌, List, [], length, get_or, take, Some, None, Err, codes, sym, ap, ◌∙◌, subst, arith, Bor}
 use Rattle.std.proofs.lemmas.List.{length-map, take-map}
 use Rattle.orders.specs.declared.space.QueryBox.{QueryBox}
 use Rattle.script.specs.Numbers.{NumberIs}
@@ -9,10 +9,7 @@ use Rattle.script.specs.declared.question.Question.{Question}
 use Rattle.script.specs.declared.question.Question.TheVariants.{AddressOf, PointOf, FirstOf}
 use Rattle.script.specs.declared.trouble.Trouble.{Trouble}
 use Rattle.script.specs.declared.trouble.Trouble.TheVariants.{Refused, Unclear, Memory}
-use Rattle.script.proofs.Rows.{past, text_at}
-
-abbrev M : ℕ
-M = 2 ^ 64 - 1
+use Rattle.script.proofs.Rows.{M, past, text_at, number_at}
 
 module _ (ws : List (Bor (List ℕ))) where
   len : length (texts ws) ≡ length ws
@@ -30,8 +27,7 @@ module _ (ws : List (Bor (List ℕ))) where
         k,
         omega (arith, len),
         text_at ws k (omega arith) ∙ from,
-        subst (λ (t : List ℕ). NumberIs t M (Some a)) (sym (text_at ws (k + 1) (omega arith)))
-            (subst (λ (i : ℕ). NumberIs (get_or ws i past).now M (Some a)) more number),
+        number_at ws (k + 1) (Some a) (omega arith) (subst (λ (i : ℕ). NumberIs (get_or ws i past).now M (Some a)) more number),
         subst (λ (ts : List (List ℕ)). Ends n ts b.low b.high) box_words ends,
       )
 
@@ -39,7 +35,7 @@ module _ (ws : List (Bor (List ℕ))) where
   first_unnumbered n two never b a w =
       let k : w.0 + 1 ≡ length ws - 1 = omega (arith, len, w.1) in
       let at : NumberIs (get_or (texts ws) (length ws - 1) []) M (Some a) = subst (λ (i : ℕ). NumberIs (get_or (texts ws) i []) M (Some a)) k w.3 in
-      never (subst (λ (t : List ℕ). NumberIs t M (Some a)) (text_at ws (length ws - 1) (omega arith)) at).0
+      number_at ws (length ws - 1) None (omega arith) never at.0
 
   pub first_no_box : (n : ℕ) (e : Trouble) → 2 ≤ length ws → NoBox n (texts (take (length ws - 2) ws)) e → FirstIs n (texts ws) (Err e)
   first_no_box n (Unclear r) two h =
@@ -59,8 +55,8 @@ address_words n verb ts (Unclear r) is h = not-address
   where
     not-address : (q : Question) → Asks n verb ts q → ⊥
     not-address (AddressOf x) asks = h x asks.1
-    not-address (PointOf a) asks = absurd (omega (arith, ap (λ (t : List ℕ). get_or t 0 0) (sym is ∙ asks.0)))
-    not-address (FirstOf b a) asks = absurd (omega (arith, ap (λ (t : List ℕ). get_or t 0 0) (sym is ∙ asks.0)))
+    not-address (PointOf a) asks = absurd (cc (is, asks.0))
+    not-address (FirstOf b a) asks = absurd (cc (is, asks.0))
 address_words n verb ts (Refused f) is h = absurd h
 address_words n verb ts Memory is h = tt
 
@@ -68,7 +64,7 @@ pub first_words : (n : ℕ) (verb : List ℕ) (ts : List (List ℕ)) (e : Troubl
 first_words n verb ts (Unclear r) is h = not_first
   where
     not_first : (q : Question) → Asks n verb ts q → ⊥
-    not_first (AddressOf x) asks = absurd (omega (arith, ap (λ (t : List ℕ). get_or t 0 0) (sym is ∙ asks.0)))
+    not_first (AddressOf x) asks = absurd (cc (is, asks.0))
     not_first (PointOf a) asks = absurd (omega (arith, ap (λ (t : List ℕ). get_or t 0 0) (sym is ∙ asks.0)))
     not_first (FirstOf b a) asks = h b a asks.1
 first_words n verb ts (Refused f) is h = (h.0, is, h.1)

@@ -1,14 +1,14 @@
 -- Rows of words and the numbers that they write.
-use Rattle.std.proofs.Common.{◌≡◌, ℕ, ◌+◌, ◌-◌, ◌/◌, ◌%◌, ◌^◌, ◌<◌, List, [], ◌∷◌, ◌++◌, length, get_or, take, drop, Some, None, sym, ap, ◌∙◌, subst, inl, inr, arith, ext_get_or, Bor}
+use Rattle.std.proofs.Common.{◌≡◌, ℕ, ◌+◌, ◌-◌, ◌/◌, ◌%◌, ◌^◌, ◌<◌, List, [], ◌∷◌, ◌++◌, length, get_or, take, drop, Some, Option, sym, ap, ◌∙◌, subst, inl, inr, arith, Bor}
 use Rattle.std.proofs.lemmas.List.{get_or-map, length-map, take-map, drop-map, get_or_append_left, get_or_push}
 use Rattle.std.proofs.lemmas.Bool.{cases_lt}
 use Rattle.orders.specs.declared.point.Point.{Point}
-use Rattle.script.specs.Numbers.{NumberIs, PointIs}
-use Rattle.script.specs.Words.{texts, Numbers, Written, NoPoint, Ends, NoBox}
+use Rattle.script.specs.Numbers.{NumberIs}
+use Rattle.script.specs.Words.{texts, Written, NoPoint, Ends, NoBox}
 use Rattle.script.specs.declared.trouble.Trouble.{Trouble}
 use Rattle.script.specs.declared.trouble.Trouble.TheVariants.{Refused, Unclear, Memory}
 
-abbrev M : ℕ
+abbrev pub M : ℕ
 M = 2 ^ 64 - 1
 
 -- what a place past the end would hold
@@ -19,6 +19,10 @@ past = record { ref_ptr = (0, 0); now = [] }
 pub text_at : (ws : List (Bor (List ℕ))) (k : ℕ) → k < length ws → get_or (texts ws) k [] ≡ (get_or ws k past).now
 text_at ws k lt = get_or-map (λ (v : Bor (List ℕ)). v.now) ws k past [] lt
 
+-- the word in the place k writes the number that its text writes, or none
+pub number_at : (ws : List (Bor (List ℕ))) (k : ℕ) (v : Option ℕ) → k < length ws → NumberIs (get_or ws k past).now M v → NumberIs (get_or (texts ws) k []) M v
+number_at ws k v lt = subst (λ (t : List ℕ). NumberIs t M v) (sym (text_at ws k lt))
+
 -- one number more
 pub one_more : (ts : List (List ℕ)) (vs us : List ℕ) (k v : ℕ) → length vs ≡ k → us ≡ vs ++ v ∷ [] → NumberIs (get_or ts k []) M (Some v) → ((i : ℕ) → i < k → NumberIs (get_or ts i []) M (Some (get_or vs i 0)))
     → (i : ℕ) → i < k + 1 → NumberIs (get_or ts i []) M (Some (get_or us i 0))
@@ -27,11 +31,6 @@ one_more ts vs us k v len us-is here before i lt =
       | inl less ↦ let in-vs : i < length vs = omega arith in rw (get_or_append_left vs (v ∷ []) 0 i in-vs) (before i less)
       | inr past ↦ let e : i ≡ k = omega arith in rw e (rw (get_or_push vs v 0 k len) here)
     ])
-
--- too few words or too many
-pub wrong_number : (n : ℕ) (ts : List (List ℕ)) → (length ts ≡ n → ⊥) → (length ts ≡ 4 → ⊥) → (x : Point) → Written n ts x → ⊥
-wrong_number n ts not-n not-four x w =
-    elim w.2.0.1 [ inl e ↦ not-n (sym w.1.0 ∙ e) | inr e ↦ not-four (sym w.1.0 ∙ e) ]
 
 -- The two halves of the words of a box.
 module _ (ws : List (Bor (List ℕ))) where

@@ -1,7 +1,4 @@
-use Rattle.std.proofs.Common.{sym, subst}
 use Rattle.std.proofs.lemmas.Result.{err_from_is_err_and}
-use Rattle.orders.specs.declared.point.Point.{Point}
-use Rattle.script.specs.Words.{texts, Ends}
 use Rattle.script.proofs.Rows.{odd, ends, no_low, no_high}
 use Rattle.script.proofs.parse.parse_box.Goals as goal
 
@@ -32,7 +29,6 @@ pub returns : goal.returns
 returns c =
     let ws = c.args.words.now in
     let n = c.args.n in
-    let b = c.in_ok-new.field-0 in
     let e = c.in_ok-new.ensures in
     let w = ends ws n c.in_ok-low.low c.in_ok-high.high c.if-words-ne0.false (rw c.split_at.ensures.front at c.in_ok-low.ensures) (rw c.split_at.ensures.back at c.in_ok-high.ensures) in
-    subst (λ (x : Point). Ends n (texts ws) x b.high) (sym e.0) (subst (λ (y : Point). Ends n (texts ws) c.in_ok-low.low y) (sym e.1) w)
+    rw (e.0, e.1) w
