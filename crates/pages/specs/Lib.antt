@@ -1,5 +1,6 @@
 pub mod Image
 pub mod Cut
+pub mod Memory
 pub mod Turn
 pub mod Skip
 pub mod Making

@@ -1,6 +1,7 @@
 -- The proofs that the ghost member `sized` of the stores hands over: at most 65,535 pages of 128 bytes each, and a charge of 32 bits.
 use Rattle.std.specs.Prelude.{◌≡◌, ℕ, zero, suc, ◌+◌, ◌-◌, ◌*◌, ◌/◌, ◌^◌, ◌<◌, ◌≤◌, Bool, true, false, cond, List, [], ◌∷◌, map, length, take, drop, nat_le, slice_index, slice_index_or, refl}
 use Rattle.std.proofs.Common.{ap, sym, ◌∙◌, div-mul-le_self, arith}
+use Rattle.std.proofs.Math.ListN.{get_or-map as get_or-map_at}
 use Rattle.std.proofs.lemmas.List.{drop-drop, length-take-le, length-drop, length-map, get_or-map}
 use Rattle.std.proofs.lemmas.Bool.{leb-true}
 use Rattle.std.proofs.ByRecursion.{All-get_or}
@@ -47,18 +48,12 @@ held_sized bytes charge c = record {
   carried = c;
 }
 
--- a page of turned pages
-pub map_getD : {X Y : Type 0} (f : List X → List Y) (xs : List (List X)) (i : ℕ) → f [] ≡ [] → slice_index_or (map f xs) i [] ≡ f (slice_index_or xs i [])
-map_getD f [] i e = sym e
-map_getD f (x ∷ xs) zero e = refl
-map_getD f (x ∷ xs) (suc i) e = map_getD f xs i e
-
 -- a turned store is sized as the store below is
 pub turned_sized : (m : Image) → Sized m → Sized (turned m)
 turned_sized m s = record {
   few = rw (length-map m.pages (map turn)) s.few;
   long = λ p h.
-      ap length (map_getD (map turn) m.pages (p - 1) refl) ∙ length-map (at m p) turn
+      ap length (get_or-map_at (map turn) m.pages (p - 1) []) ∙ length-map (at m p) turn
       ∙ s.long p (h.0, rw (length-map m.pages (map turn)) at h.1);
   carried = s.carried;
 }

@@ -1,6 +1,7 @@
 ghost use Rattle.std.specs.Prelude.{◌≡◌, ℕ, ◌+◌, ◌≤◌, length, take, drop};
 ghost use Rattle.pages.specs.Image.{Image, Reads, Writes, granted};
-ghost use Rattle.pages.specs.Cut.{held, number, Overwrites};
+ghost use Rattle.pages.specs.Cut.{number, Overwrites};
+ghost use Rattle.pages.specs.Memory.{meaning_of};
 ghost use Rattle.pages.specs.Sizes.{held_sized};
 
 use crate::charge::Charge;
@@ -35,7 +36,7 @@ impl<'a> MemoryStore<'a> {
         }
     }
 
-    // Fills `into` from `start` on.
+    // Fills `into` from `start` on. It takes `&self`: a `read` that looked into the bytes itself would prove nothing of them afterwards.
     fn copy_out(&self, start: usize, into: &mut [u8; 128])
         requires { start + 128 ≤ length self.now.bytes.now }
         ensures { into.new ≡ take 128 (drop start self.now.bytes.now) }
@@ -45,7 +46,7 @@ impl<'a> MemoryStore<'a> {
 }
 
 impl<'a> PageStore for MemoryStore<'a> {
-    ghost meaning = { λ s. held s.bytes.now s.charge.left };
+    ghost meaning = { meaning_of };
 
     ghost sized = { λ s. held_sized s.bytes.now s.charge.left s.charge.fits };
 
@@ -54,7 +55,7 @@ impl<'a> PageStore for MemoryStore<'a> {
     }
 
     fn read(&mut self, page: u16, into: &mut [u8; 128]) -> Result<(), StoreFault>
-        ensures read { Reads (held self.old.bytes.now self.old.charge.left) page into.old result (held self.new.bytes.now self.new.charge.left) into.new }
+        ensures read { Reads (meaning_of self.old) page into.old result (meaning_of self.new) into.new }
         ensures bytes { self.new.bytes.now ≡ self.old.bytes.now }
         ensures lent { self.new.bytes.ghost_name ≡ self.old.bytes.ghost_name }
     {
@@ -66,7 +67,7 @@ impl<'a> PageStore for MemoryStore<'a> {
 
     // Every byte outside the page keeps its value, also past the last page.
     fn write(&mut self, page: u16, from: &[u8; 128]) -> Result<(), StoreFault>
-        ensures write { Writes (held self.old.bytes.now self.old.charge.left) page from.now result (held self.new.bytes.now self.new.charge.left) }
+        ensures write { Writes (meaning_of self.old) page from.now result (meaning_of self.new) }
         ensures bytes { Overwrites self.old.bytes.now page from.now result self.new.bytes.now }
         ensures lent { self.new.bytes.ghost_name ≡ self.old.bytes.ghost_name }
     {
@@ -78,7 +79,7 @@ impl<'a> PageStore for MemoryStore<'a> {
     }
 
     fn grant(&mut self, charge: u32)
-        ensures grant { held self.new.bytes.now self.new.charge.left ≡ granted (held self.old.bytes.now self.old.charge.left) charge }
+        ensures grant { meaning_of self.new ≡ granted (meaning_of self.old) charge }
         ensures bytes { self.new.bytes.now ≡ self.old.bytes.now }
         ensures lent { self.new.bytes.ghost_name ≡ self.old.bytes.ghost_name }
     {

@@ -1,5 +1,5 @@
 -- A chain that is built downwards from the numbers that are not marked.
-use Rattle.std.proofs.Common.{◌≡◌, ℕ, zero, suc, ◌+◌, ◌-◌, min, ◌<◌, ◌≤◌, Bool, true, false, cond, not, List, [], ◌∷◌, get_or, Ok, Err, Result, sym, ap, ◌∙◌, arith}
+use Rattle.std.proofs.Common.{◌≡◌, ℕ, zero, suc, ◌+◌, ◌-◌, min, ◌<◌, ◌≤◌, Bool, true, false, cond, not, List, ◌∷◌, get_or, Ok, Err, Result, sym, ap, ◌∙◌, arith}
 use Rattle.std.specs.List.{range_with_len}
 use Rattle.std.proofs.ByRecursion.{all_kept_by}
 use Rattle.records.specs.Chain.{Absent, unmarked, Puts}
@@ -22,9 +22,6 @@ pub record Built (marks : List Bool) (low high k : ℕ) (xs : List ℕ) : Type 0
   pub above : min low high ≤ k
   pub built : xs ≡ unmarked marks (k + 1) (high - k)
 
-pub built_none : (marks : List Bool) (low high : ℕ) (xs : List ℕ) → xs ≡ [] → Built marks low high high xs
-built_none marks low high xs e = let z : high - high ≡ 0 = omega arith in record { above = omega arith; built = rw (z, e) }
-
 module _ (marks : List Bool) (low high k : ℕ) (xs : List ℕ) (b : Built marks low high k xs) (h : k ≤ high) where
   one : unmarked marks k (high + 1 - k) ≡ cond (not (get_or marks k false)) (k ∷ unmarked marks (k + 1) (high - k)) (unmarked marks (k + 1) (high - k))
   one = let e : high + 1 - k ≡ suc (high - k) = omega arith in rw e
@@ -43,8 +40,3 @@ module _ (marks : List Bool) (low high k : ℕ) (xs : List ℕ) (b : Built marks
 pub built_next : (marks : List Bool) (low high k : ℕ) (xs : List ℕ) → low < k → k ≤ high → xs ≡ unmarked marks k (high + 1 - k) → Built marks low high (k - 1) xs
 built_next marks low high k xs l h e =
     let f : k - 1 + 1 ≡ k = omega arith in let g : high - (k - 1) ≡ high + 1 - k = omega arith in record { above = omega arith; built = rw (f, g, e) }
-
--- a loop that came to no number
-pub built_empty : (marks : List Bool) (low high k : ℕ) (xs : List ℕ) → Built marks low high k xs → k ≤ high → k < low → xs ≡ unmarked marks low (high + 1 - low)
-built_empty marks low high k xs b h l =
-    let a = b.above in let e : high - k ≡ 0 = omega arith in let f : high + 1 - low ≡ 0 = omega arith in b.built ∙ rw (e, f)

@@ -4,7 +4,8 @@ ghost use Rattle.records.specs.Chain.{Chained, Absent, walk};
 pub mod methods;
 pub mod places;
 
-// Free numbers from 1 to 1,025, each a record with the index of the next; 0 ends the chain, and 65,535 stands at a number that is not in it.
+// Free numbers from 1 to 1,025 in a table of fixed size, as the device has no heap: each is a record with the index of the next; 0 ends the
+// chain, and 65,535 stands at a number that is not in it.
 #[derive(Drop)]
 pub struct FreeList {
     next: [u16; 1026],

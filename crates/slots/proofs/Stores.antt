@@ -4,12 +4,15 @@ use Rattle.std.proofs.lemmas.List.{length-drop, take_all, length-set, get_or-set
 use Rattle.std.specs.List.{range_with_len, AllByRecursion}
 use Rattle.std.proofs.ByRecursion.{All-get_or, All-from_get_or, All-weaker, all_kept_by, kept_by_passes}
 use Rattle.std.proofs.lemmas.Bool.{cases_eq, eq-eqb, ne_eqb, eqb-true}
+use Rattle.std.proofs.lemmas.List.FromFn.{get_or-map-range_with_len}
+use Rattle.pages.specs.Image.{at}
 use Rattle.records.specs.Chain.{Absent, Within, unmarked, Takes, Puts}
 use Rattle.records.specs.Free.{numbers}
 use Rattle.records.proofs.Frees.{numbers_within}
 use Rattle.records.proofs.Rising.{put_sure}
 use Rattle.slots.specs.declared.store.SlotStore.{SlotStore}
 use Rattle.slots.specs.Slot.{number, filled, freed, slot_at, span, page_in, vacant, Allowed, Stores}
+use Rattle.slots.specs.Store.{meaning_of}
 use Rattle.slots.specs.Sizes.{span_in, span_out}
 use Rattle.slots.specs.Survey.{Tables}
 use Rattle.slots.specs.Making.{Makes}
@@ -227,16 +230,18 @@ module _ (b : SlotStore) (q : ℕ) (q1 : 1 ≤ q) (qn : q ≤ b.pages) where
   S' : Sound b.row.slots.now b.home (numbers b.free) b.pages
   S' = sound b (omega arith)
 
-  page_by : page_in (take (b.pages + 1) b.row.slots.now) q ≡ by_home b.row.slots.now b.home q
-  page_by = page_is b.row.slots.now b.home (numbers b.free) b.pages S' q q1
+  page_by : at (meaning_of b) q ≡ by_home b.row.slots.now b.home q
+  page_by =
+      get_or-map-range_with_len (page_in (take (b.pages + 1) b.row.slots.now)) 1 b.pages (q - 1) q [] (omega arith) (omega arith)
+      ∙ page_is b.row.slots.now b.home (numbers b.free) b.pages S' q q1
 
-  pub page_none : get_or b.home q 0 ≡ 0 → replicate 128 0 ≡ page_in (take (b.pages + 1) b.row.slots.now) q
+  pub page_none : get_or b.home q 0 ≡ 0 → replicate 128 0 ≡ at (meaning_of b) q
   page_none z = let t : eqb (get_or b.home q 0) 0 ≡ true = eq-eqb (get_or b.home q 0) 0 z in sym (page_by ∙ rw t)
 
   pub home_in : get_or b.home q 0 ≤ length b.row.slots.now
   home_in = let r = S'.reach q in let h = S'.room in omega arith
 
-  pub page_some : (v : List ℕ) → (get_or b.home q 0 ≡ 0 → ⊥) → v ≡ take 128 (drop 2 (slot_at b.row.slots.now (get_or b.home q 0))) → v ≡ page_in (take (b.pages + 1) b.row.slots.now) q
+  pub page_some : (v : List ℕ) → (get_or b.home q 0 ≡ 0 → ⊥) → v ≡ take 128 (drop 2 (slot_at b.row.slots.now (get_or b.home q 0))) → v ≡ at (meaning_of b) q
   page_some v z e =
       let t : eqb (get_or b.home q 0) 0 ≡ false = ne_eqb (get_or b.home q 0) 0 z in
       let r = S'.reach q in

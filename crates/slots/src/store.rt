@@ -11,6 +11,7 @@ pub mod access;
 pub mod making;
 
 // Pages 1 to `pages` in the first `pages` + 1 of the lent slots. `home` has the slot of each page, or 0, and `free` the free slots.
+// An `Option` in place of the 0 would take four bytes for each page, not two.
 // A store that was made on a no has no page.
 #[derive(Drop)]
 pub struct SlotStore<'a> {

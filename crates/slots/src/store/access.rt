@@ -1,8 +1,8 @@
-ghost use Rattle.std.specs.Prelude.{◌≡◌, ◌+◌, ◌-◌, ◌≤◌, map, take, Ok, slice_set};
-ghost use Rattle.std.specs.List.{range_with_len};
-ghost use Rattle.pages.specs.Image.{Image, Reads, Writes, granted};
+ghost use Rattle.std.specs.Prelude.{◌≡◌, ◌-◌, ◌≤◌, Ok, slice_set};
+ghost use Rattle.pages.specs.Image.{Image, at, Reads, Writes, granted};
 ghost use Rattle.records.specs.Free.{numbers};
-ghost use Rattle.slots.specs.Slot.{held, page_in, Stores};
+ghost use Rattle.slots.specs.Slot.{Stores};
+ghost use Rattle.slots.specs.Store.{meaning_of};
 ghost use Rattle.slots.specs.Sizes.{held_sized};
 
 use crate::slot::{slot_of, vacated};
@@ -15,7 +15,7 @@ impl SlotStore<'_> {
     fn copy_page(&self, page: u16, into: &mut [u8; 128])
         requires low { 1 ≤ page }
         requires high { page ≤ self.now.pages }
-        ensures { into.new ≡ page_in (take (self.now.pages + 1) self.now.row.slots.now) page }
+        ensures { into.new ≡ at (meaning_of self.now) page }
     {
         let s = self.home[page as usize];
         if s == 0 {
@@ -31,7 +31,7 @@ impl SlotStore<'_> {
     fn put_page(&mut self, page: u16, from: &[u8; 128])
         requires low { 1 ≤ page }
         requires high { page ≤ self.old.pages }
-        ensures pages { map (page_in (take (self.old.pages + 1) self.new.row.slots.now)) (range_with_len 1 self.old.pages) ≡ slice_set (map (page_in (take (self.old.pages + 1) self.old.row.slots.now)) (range_with_len 1 self.old.pages)) (page - 1) from.now }
+        ensures pages { (meaning_of self.new).pages ≡ slice_set (meaning_of self.old).pages (page - 1) from.now }
         ensures stores { Stores self.old.row.slots.now (numbers self.old.free) self.old.pages page from.now (Ok tt) self.new.row.slots.now (numbers self.new.free) }
         ensures size { self.new.pages ≡ self.old.pages }
         ensures charge { self.new.charge.left ≡ self.old.charge.left }
@@ -54,7 +54,7 @@ impl SlotStore<'_> {
 // The clauses past the trait's say what becomes of the slots and of the free ones, in the chain's order; the clauses `lent` that the slots
 // are those of the same loan.
 impl<'a> PageStore for SlotStore<'a> {
-    ghost meaning = { λ s. held s.row.slots.now s.pages s.charge.left };
+    ghost meaning = { meaning_of };
 
     ghost sized = { λ s. held_sized s.row.slots.now s.pages s.room s.long s.charge.left s.few s.charge.fits };
 
@@ -63,7 +63,7 @@ impl<'a> PageStore for SlotStore<'a> {
     }
 
     fn read(&mut self, page: u16, into: &mut [u8; 128]) -> Result<(), StoreFault>
-        ensures read { Reads (held self.old.row.slots.now self.old.pages self.old.charge.left) page into.old result (held self.new.row.slots.now self.new.pages self.new.charge.left) into.new }
+        ensures read { Reads (meaning_of self.old) page into.old result (meaning_of self.new) into.new }
         ensures slots { self.new.row.slots.now ≡ self.old.row.slots.now }
         ensures free { numbers self.new.free ≡ numbers self.old.free }
         ensures lent { self.new.row.slots.ghost_name ≡ self.old.row.slots.ghost_name }
@@ -75,7 +75,7 @@ impl<'a> PageStore for SlotStore<'a> {
     }
 
     fn write(&mut self, page: u16, from: &[u8; 128]) -> Result<(), StoreFault>
-        ensures write { Writes (held self.old.row.slots.now self.old.pages self.old.charge.left) page from.now result (held self.new.row.slots.now self.new.pages self.new.charge.left) }
+        ensures write { Writes (meaning_of self.old) page from.now result (meaning_of self.new) }
         ensures stores { Stores self.old.row.slots.now (numbers self.old.free) self.old.pages page from.now result self.new.row.slots.now (numbers self.new.free) }
         ensures lent { self.new.row.slots.ghost_name ≡ self.old.row.slots.ghost_name }
     {
@@ -86,7 +86,7 @@ impl<'a> PageStore for SlotStore<'a> {
     }
 
     fn grant(&mut self, charge: u32)
-        ensures grant { held self.new.row.slots.now self.new.pages self.new.charge.left ≡ granted (held self.old.row.slots.now self.old.pages self.old.charge.left) charge }
+        ensures grant { meaning_of self.new ≡ granted (meaning_of self.old) charge }
         ensures slots { self.new.row.slots.now ≡ self.old.row.slots.now }
         ensures free { numbers self.new.free ≡ numbers self.old.free }
         ensures lent { self.new.row.slots.ghost_name ≡ self.old.row.slots.ghost_name }

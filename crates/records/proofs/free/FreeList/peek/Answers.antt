@@ -16,11 +16,6 @@ loop-init c =
     let f = c.args.self.now in
     from_front f.next (numbers f) f.front (numbers_within f) (kept f).chained.0
 
-pub bounds-self-k : goal.bounds-self-k
-bounds-self-k c =
-    let f = c.args.self.now in
-    omega (arith, (c.loop.invariant.here (omega (arith, (kept f).counted))).2)
-
 pub loop-preserved : goal.loop-preserved
 loop-preserved c =
     let f = c.args.self.now in

@@ -1,11 +1,8 @@
 use Rattle.std.proofs.Common.{◌≡◌, max, ap, ◌∙◌, arith}
 use Rattle.records.specs.Free.{numbers}
-use Rattle.records.proofs.Rising.{built_none, built_next, built_empty, went_put, went_left}
+use Rattle.records.proofs.Rising.{built_next, went_put, went_left}
 use Rattle.records.proofs.free.FreeList.rising.Goals as goal
 use Rattle.records.proofs.free.FreeList.rising.Goals.{then-not-marks-k, else-not-marks-k}
-
-pub loop-k-init : goal.loop-k-init
-loop-k-init c = built_none _ _ _ _ c.none-list.ensures
 
 pub loop-k-preserved : goal.loop-k-preserved
 loop-k-preserved c =
@@ -15,9 +12,6 @@ loop-k-preserved c =
           ∙ went_put _ _ _ _ _ c.loop-k.invariant (omega arith) _ _ (omega arith) (omega arith) w.if-not-marks-k.true w.put_front.ensures
       | else-not-marks-k w ↦ ap numbers w.list-is ∙ went_left _ _ _ _ _ c.loop-k.invariant (omega arith) w.if-not-marks-k.false
     ])
-
-pub returns : goal.returns
-returns c = rw (← c.max-low.ensures, ← c.min-high.ensures) (built_empty _ _ _ _ _ c.loop-k.invariant (omega arith) (omega arith))
 
 pub returns-after-not-marks-k : goal.returns-after-not-marks-k
 returns-after-not-marks-k c =

@@ -10,4 +10,4 @@ returns-in_err-access-clause-write c =
 pub returns-clause-write : goal.returns-clause-write
 returns-clause-write c =
     writes_yes c.args.self.now.row.slots.now c.args.self.now.pages c.args.self.now.charge.left c.args.page c.access.new.self.left _ _ c.args.from.now _
-    c.in_ok-access.ensures c.put_page.ensures.charge c.put_page.ensures.size c.put_page.ensures.pages
+    c.in_ok-access.ensures c.put_page.ensures.charge c.put_page.ensures.pages
