@@ -2,7 +2,6 @@
 use Rattle.std.specs.Prelude.{ℕ, List, [], ◌∷◌}
 use Rattle.pages.specs.declared.fault.StoreFault.{StoreFault}
 use Rattle.pages.specs.declared.fault.StoreFault.TheVariants.{Absent as is_absent, Uncharged as is_uncharged}
-use Rattle.layout.specs.declared.visit.Rule.{Rule}
 pub use Rattle.layout.specs.Rules.{letter}
 use Rattle.faults.specs.declared.fault.Access.{Access}
 use Rattle.faults.specs.declared.fault.Fault.{Fault}
