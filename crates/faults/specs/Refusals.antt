@@ -1,8 +1,8 @@
 -- What is told of a refusal: its number and the values that go with it, case by case.
-use Rattle.std.specs.Prelude.{ℕ, List, [], ◌∷◌}
+use Rattle.std.specs.Prelude.{ℕ, List, [], ◌∷◌, codes}
 use Rattle.pages.specs.declared.fault.StoreFault.{StoreFault}
 use Rattle.pages.specs.declared.fault.StoreFault.TheVariants.{Absent as is_absent, Uncharged as is_uncharged}
-use Rattle.layout.specs.declared.visit.Rule.{Rule}
+use Rattle.layout.specs.declared.visit.Rule.TheVariants.{A, B, C, D, E, F}
 pub use Rattle.layout.specs.Rules.{letter}
 use Rattle.faults.specs.declared.fault.Access.{Access}
 use Rattle.faults.specs.declared.fault.Fault.{Fault}
@@ -46,6 +46,27 @@ values_of CountFull = []
 values_of HeightFull = []
 values_of Room = []
 values_of (Unwritten a) = access_values a
+
+-- what is told of it in plain words
+abbrev pub words : Fault → List ℕ
+words Shut = codes "the index is shut"
+words Outside = codes "the point lies outside the space"
+words Work = codes "an opening needs 64 work records"
+words (Absent a) = codes "the store has no such page"
+words (Unread a) = codes "the charge does not carry the read"
+words NoHeader = codes "page 1 is no header"
+words OtherOrder = codes "the header is of another order"
+words (Unsound p A) = codes "a page number is no usable page, or is reached twice"
+words (Unsound p B) = codes "a page does not say its own number or level"
+words (Unsound p C) = codes "a page has not 1 to 10 entries, or bytes that should be zero are not"
+words (Unsound p D) = codes "a leaf's keys do not rise inside its region, or a count is 0"
+words (Unsound p E) = codes "an inner page's keys do not rise inside its region, or the last is not 0"
+words (Unsound p F) = codes "the counts do not sum to the total, or fewer than 6 pages are free"
+words NoEvent = codes "the point has no event"
+words CountFull = codes "the count is at its greatest"
+words HeightFull = codes "the tree would rise above 6 levels"
+words Room = codes "too few free pages"
+words (Unwritten a) = codes "the charge does not carry the write"
 
 -- a read or a write that the store refused, as a fault: absent pages are 8, want of charge is 9 at a read and 17 at a write
 abbrev pub by_fault : StoreFault → Fault → Fault → Fault

@@ -1,6 +1,6 @@
 // The refusals of the index's calls. Each has a number that all programs share.
-ghost use Rattle.std.specs.Prelude.{◌≡◌};
-ghost use Rattle.faults.specs.Refusals.{number_of, unread, unwritten};
+ghost use Rattle.std.specs.Prelude.{◌≡◌, Some};
+ghost use Rattle.faults.specs.Refusals.{number_of, words, unread, unwritten};
 
 use layout::visit::Rule;
 use pages::fault::StoreFault;
@@ -88,6 +88,8 @@ impl Fault {
 
 // Why, in plain words.
 impl fmt::Display for Fault {
+    ghost output = { λ f. Some (words f) };
+
     fn fmt<W: fmt::Write>(&self, f: &mut fmt::Formatter<W>) -> fmt::Result {
         f.write_str(match self {
             Fault::Shut => "the index is shut",
@@ -97,24 +99,21 @@ impl fmt::Display for Fault {
             Fault::Unread(_) => "the charge does not carry the read",
             Fault::NoHeader => "page 1 is no header",
             Fault::OtherOrder => "the header is of another order",
-            Fault::Unsound(_, rule) => broken(*rule),
+            Fault::Unsound(_, Rule::A) => "a page number is no usable page, or is reached twice",
+            Fault::Unsound(_, Rule::B) => "a page does not say its own number or level",
+            Fault::Unsound(_, Rule::C) =>
+                "a page has not 1 to 10 entries, or bytes that should be zero are not",
+            Fault::Unsound(_, Rule::D) =>
+                "a leaf's keys do not rise inside its region, or a count is 0",
+            Fault::Unsound(_, Rule::E) =>
+                "an inner page's keys do not rise inside its region, or the last is not 0",
+            Fault::Unsound(_, Rule::F) =>
+                "the counts do not sum to the total, or fewer than 6 pages are free",
             Fault::NoEvent => "the point has no event",
             Fault::CountFull => "the count is at its greatest",
             Fault::HeightFull => "the tree would rise above 6 levels",
             Fault::Room => "too few free pages",
             Fault::Unwritten(_) => "the charge does not carry the write",
         })
-    }
-}
-
-// How a rule is broken.
-fn broken(rule: Rule) -> &'static str {
-    match rule {
-        Rule::A => "a page number is no usable page, or is reached twice",
-        Rule::B => "a page does not say its own number or level",
-        Rule::C => "a page has not 1 to 10 entries, or bytes that should be zero are not",
-        Rule::D => "a leaf's keys do not rise inside its region, or a count is 0",
-        Rule::E => "an inner page's keys do not rise inside its region, or the last is not 0",
-        Rule::F => "the counts do not sum to the total, or fewer than 6 pages are free",
     }
 }

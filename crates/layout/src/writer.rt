@@ -42,10 +42,7 @@ fn put_page(page: &mut [u8; 128], level: u8, number: u16, entries: &[Entry])
 {
     *page = [0; 128];
     let [low, high] = number.to_le_bytes();
-    page[0] = level;
-    page[1] = entries.len() as u8;
-    page[2] = low;
-    page[3] = high;
+    page[..4].copy_from_slice(&[level, entries.len() as u8, low, high]);
     for (i, e) in entries.iter().enumerate() {
         let p = 8 + 12 * i;
         put_entry(&mut page[p..p + 12], *e);

@@ -30,9 +30,9 @@ pub record SearchExample : Type 0 where
   pub level : Level example_tree 2
   pub steps : example_steps ≡ reads 5 4 ∷ reads 2 4 ∷ finds (at 4) ∷ finds (at 5) ∷ reads 4 6 ∷ finds (at 6) ∷ finds (at 7) ∷ []
   pub limited : map (λ (limit : ℕ × ℕ). run example_steps limit.0 limit.1) ((3, 4) ∷ (2, 4) ∷ (0, 4) ∷ (3, 1) ∷ [])
-    ≡ outcome (map at (4 ∷ 5 ∷ 6 ∷ 7 ∷ [])) Ending.done 3
-    ∷ outcome (map at (4 ∷ 5 ∷ [])) (Ending.cut 4 6) 2
-    ∷ outcome [] (Ending.cut 5 4) 0
-    ∷ outcome (map at (4 ∷ [])) (Ending.more 5) 2
-    ∷ []
+      ≡ outcome (map at (4 ∷ 5 ∷ 6 ∷ 7 ∷ [])) Ending.done 3
+      ∷ outcome (map at (4 ∷ 5 ∷ [])) (Ending.cut 4 6) 2
+      ∷ outcome [] (Ending.cut 5 4) 0
+      ∷ outcome (map at (4 ∷ [])) (Ending.more 5) 2
+      ∷ []
   pub later : run (search_steps example_box 6 example_tree 0 63) 3 4 ≡ outcome (map at (6 ∷ 7 ∷ [])) Ending.done 2
