@@ -14,7 +14,7 @@ pub(crate) fn take_used(free: &mut FreeList, used: usize)
     }
 }
 
-// Puts the old path's pages to the front, the leaf's first.
+// Puts the old path's pages to the front, the leaf's first; a path has at most six.
 pub(crate) fn give_back(free: &mut FreeList, path: &[u16; 6], height: u8)
     ensures { GivenBack path.now height (numbers free.old) (numbers free.new) }
 {
