@@ -1,5 +1,6 @@
 -- A call that copies a path is a step: what is left to show of it is said once for lodge and withdraw.
-use Rattle.std.proofs.Common.{◌≡◌, ℕ, ◌≤◌, List, [], ◌∷◌, length, Ok, Err, Result, ◌∙◌, subst, arith}
+use Rattle.std.proofs.Common.{◌≡◌, ◌≢◌, ℕ, ◌≤◌, List, length, Ok, Err, Result, ◌∙◌, subst, arith}
+use Rattle.std.proofs.ByRecursion.{All-weaker}
 use Rattle.std.specs.List.{AllByRecursion}
 use Rattle.pages.specs.Image.{Image, at}
 use Rattle.orders.specs.Orders.{Order}
@@ -22,8 +23,7 @@ use Rattle.index.proofs.Tallying.{open_steps}
 
 -- page 1 is none of the pages from 2 on
 pub above_one : (l : ℕ) (xs : List ℕ) → AllByRecursion (λ p. (2 ≤ p) × (p ≤ l)) xs → Absent 1 xs
-above_one l [] all = tt
-above_one l (x ∷ xs) all = ((λ e. omega (arith, all.0.0)), above_one l xs all.1)
+above_one l xs all = All-weaker (λ (p : ℕ). (2 ≤ p) × (p ≤ l)) (λ (p : ℕ). p ≢ 1) (λ p a e. omega (arith, a.0)) xs all
 
 -- `Copy f` is what the path copy is of the tree f on file, `next f` the tree after it and `total f` its events; the rule is the call's.
 module _ (o : Order) (m : Image) (h r t : ℕ) (free : List ℕ) (call : Call)

@@ -36,7 +36,6 @@ use Rattle.index.specs.Law.{NumberOf}
 use Rattle.index.specs.Law.NumberOf.{nothing}
 use Rattle.index.specs.LawEndings.{in_leaves_from, WantedIn, Ends, Ended, EndingLaw}
 use Rattle.index.proofs.LawRuns.{counted_by, reads_paid}
-use Rattle.index.proofs.LawWhole.{no_find}
 
 -- what a run found is a beginning of what its steps find
 begins : (ss : List Step) (charge room : ℕ) → Begins (run ss charge room).found (found_of ss)
@@ -103,8 +102,8 @@ module _ (o : Order) (lo hi : List ℕ) (start : ℕ) where
       (search_of o lo hi start t s.image.charge room).ending ≡ ending →
       Ends o s lo hi start room (record { tree = t; height = height; total = total }) (finds_of o (search_of o lo hi start t s.image.charge room)) (search_of o lo hi start t s.image.charge room).reads ending
   ends_in s room height total none sound done e = (refl, nothing)
-  ends_in s room height total none sound (more a) e = let z : ◌≡◌ {A = ℕ} 0 1 = cc in absurd (omega arith)
-  ends_in s room height total none sound (cut page a) e = let z : ◌≡◌ {A = ℕ} 0 1 = cc in absurd (omega arith)
+  ends_in s room height total none sound (more a) e = absurd cc
+  ends_in s room height total none sound (cut page a) e = absurd cc
   ends_in s room height total (held n) sound ending e = ends_tree s room (record { tree = held n; height = height; total = total }) n sound ending e
 
 reads_within : (o : Order) (lo hi : List ℕ) (start charge room : ℕ) (t : Held Node) → (search_of o lo hi start t charge room).reads ≤ charge
@@ -113,8 +112,8 @@ reads_within o lo hi start charge room (held n) = reads_paid (search_steps (insi
 
 by_rule : (o : Order) (s u : State) (a : Answer) (c v : Content) (lo hi : List ℕ) (start room : ℕ) (got : List Find) (n : ℕ) (ending : Ending) → Kept o s c → a ≡ found got n ending →
     Does o c s a u v (searches lo hi start room) → Ended o s u lo hi start room got n ending
-by_rule o s u a c v lo hi start room got n ending kept e (not_open x names is ea eu ev) = no_find a _ _ got n ending ea e
-by_rule o s u a c v lo hi start room got n ending kept e (outside x height root total free names is out ea eu ev) = no_find a _ _ got n ending ea e
+by_rule o s u a c v lo hi start room got n ending kept e (not_open x names is ea eu ev) = absurd (cc (ea, e))
+by_rule o s u a c v lo hi start room got n ending kept e (outside x height root total free names is out ea eu ev) = absurd (cc (ea, e))
 by_rule o s u a c v lo hi start room got n ending kept e (searched f free ec ek il ih ea eu ev) =
     let holds : Holds o s f = subst (λ (x : Content). Kept o s x) ec kept in
     let out = search_of o lo hi start f.tree s.image.charge room in

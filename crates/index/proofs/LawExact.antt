@@ -79,7 +79,7 @@ module _ (o : Order) (law : Lawful o) (h : History) (lo hi : List ℕ) where
 
   found_here : (e : Entry) (es : List Entry) (a : ℕ) (b : Bool) → b ≡ true → e.key ≡ a → FoundAt a (map (find_of o) (cond b (e ∷ filter test es) (filter test es)))
   found_here e es a true f q = (find_of o e, has_here (find_of o e) (box es), q)
-  found_here e es a false f q = let z : ◌≡◌ {A = ℕ} 0 1 = cc in absurd (omega arith)
+  found_here e es a false f q = absurd cc
 
   found_there : (e : Entry) (es : List Entry) (a : ℕ) (b : Bool) → FoundAt a (box es) → FoundAt a (map (find_of o) (cond b (e ∷ filter test es) (filter test es)))
   found_there e es a true r = (r.0, has_there (find_of o e) r.0 (box es) r.1, r.2)

@@ -34,7 +34,7 @@ counted_by P test decides (r ∷ rs) = go (test r) (decides r) (counted_by P tes
   where
     go : (b : Bool) → Decides b (P r) → NumberOf P rs (length (filter test rs)) → NumberOf P (r ∷ rs) (length (cond b (r ∷ filter test rs) (filter test rs)))
     go true d n = one_more (d.0 refl) n
-    go false d n = passed (λ p. let e = d.1 p in let z : ◌≡◌ {A = ℕ} 0 1 = cc in absurd (omega arith)) n
+    go false d n = passed (λ p. let e = d.1 p in absurd cc) n
 
 -- the events of a box, in a tree that may be empty, as finds
 abbrev pub box_finds : Order → List ℕ → List ℕ → Held Node → List Find

@@ -1,5 +1,5 @@
 -- The same search with another charge and room: what it is answered, and that it is answered so only.
-use Rattle.std.proofs.Common.{◌≡◌, ℕ, ◌-◌, List, sym, refl, ap, ◌∙◌, subst, arith}
+use Rattle.std.proofs.Common.{◌≡◌, ℕ, ◌-◌, List, sym, refl, ap, ◌∙◌, subst}
 use Rattle.pages.specs.Image.{Image, granted}
 use Rattle.orders.specs.Orders.{Order, InSpaceOf}
 use Rattle.faults.specs.Accesses.{contents}
@@ -28,7 +28,7 @@ module _ (o : Order) (m : Image) (k : Known) (f : Filed) (free : List ℕ) (hold
       λ i. filed (record { tree = tree i; height = sym a.0 i; total = sym a.2 i })
 
   pub same_content : (c : Content) → Kept o (state m k) c → c ≡ filed f
-  same_content blank kept = let z : ◌≡◌ {A = ℕ} 0 1 = cc (kept.0, ek) in absurd (omega arith)
+  same_content blank kept = absurd (cc (kept.0, ek))
   same_content (filed g) kept = same_file g kept
 
 module _ (o : Order) (s : State) (f : Filed) (free lo hi : List ℕ) (holds : Holds o s f) (ek : s.known ≡ known_of (tree_state f free) f.total) (il : InSpaceOf o lo) (ih : InSpaceOf o hi)
@@ -55,7 +55,7 @@ module _ (o : Order) (s : State) (f : Filed) (free lo hi : List ℕ) (holds : Ho
   }
 
   does_only : (b : Answer) (u : State) (v : Content) → Does o (filed f) (with_charge s charge) b u v (searches lo hi start room) → b ≡ answer
-  does_only b u v (not_open x names is ea eu ev) = let z : ◌≡◌ {A = ℕ} 0 1 = cc (is, ek) in absurd (omega arith)
+  does_only b u v (not_open x names is ea eu ev) = absurd (cc (is, ek))
   does_only b u v (outside x h r t g from_low is out ea eu ev) = absurd (out il)
   does_only b u v (outside x h r t g to_high is out ea eu ev) = absurd (out ih)
   does_only b u v (searched g free' ec ek' jl jh ea eu ev) =

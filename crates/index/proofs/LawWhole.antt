@@ -10,7 +10,7 @@ use Rattle.searches.specs.declared.find.Find.{Find}
 use Rattle.searches.specs.Searching.{finds_of}
 use Rattle.index.specs.Model.{Answer, State, limit}
 use Rattle.index.specs.Model.Call.{searches}
-use Rattle.index.specs.Model.Answer.{refused, found}
+use Rattle.index.specs.Model.Answer.{found}
 use Rattle.index.specs.Keeping.{Content, Filed, Kept, Holds, top}
 use Rattle.index.specs.Keeping.Content.{filed}
 use Rattle.index.specs.Changes.{tree_state, known_of}
@@ -92,13 +92,10 @@ module _ (o : Order) (law : Lawful o) (h : History) (s u : State) (lo hi : List 
   pub lawful_search : Law o h s u lo hi room got reads ending
   lawful_search = record { finds = in_leaves o lo hi f; pages = pages; due = due; spent = spent; when_done = when_done; enough = enough }
 
-pub no_find : {A : Type 0} (a : Answer) (n : ℕ) (vs : List ℕ) (got : List Find) (reads : ℕ) (ending : Ending) → a ≡ refused n vs → a ≡ found got reads ending → A
-no_find a n vs got reads ending e f = let z : ◌≡◌ {A = ℕ} 0 1 = cc in absurd (omega arith)
-
 by_rule : (o : Order) → Lawful o → (h : History) (s u : State) (a : Answer) (c v : Content) (lo hi : List ℕ) (room : ℕ) (got : List Find) (reads : ℕ) (ending : Ending) → Kept o s c →
     ((x : List ℕ) → InSpaceOf o x → held_in o c x ≡ holds_after h x) → a ≡ found got reads ending → Does o c s a u v (searches lo hi 0 room) → Law o h s u lo hi room got reads ending
-by_rule o law h s u a c v lo hi room got reads ending kept counts e (not_open x names is ea eu ev) = no_find a _ _ got reads ending ea e
-by_rule o law h s u a c v lo hi room got reads ending kept counts e (outside x height root total free names is out ea eu ev) = no_find a _ _ got reads ending ea e
+by_rule o law h s u a c v lo hi room got reads ending kept counts e (not_open x names is ea eu ev) = absurd (cc (ea, e))
+by_rule o law h s u a c v lo hi room got reads ending kept counts e (outside x height root total free names is out ea eu ev) = absurd (cc (ea, e))
 by_rule o law h s u a c v lo hi room got reads ending kept counts e (searched f free ec ek il ih ea eu ev) =
     lawful_search o law h s u lo hi room got reads ending f free (subst (λ (x : Content). Kept o s x) ec kept) ek il ih
     (subst (λ (x : Content). (y : List ℕ) → InSpaceOf o y → held_in o x y ≡ holds_after h y) ec counts) (sym e ∙ ea) (ap (λ (x : State). x.image.charge) eu)

@@ -1,5 +1,5 @@
 -- What a step does to the counts of points.
-use Rattle.std.proofs.Common.{◌≡◌, ℕ, suc, ◌+◌, ◌-◌, ◌≤◌, List, Ok, Err, Result, sym, refl, ap, ◌∙◌, subst, arith}
+use Rattle.std.proofs.Common.{◌≡◌, ℕ, suc, ◌+◌, ◌-◌, List, Ok, Err, Result, sym, refl, ap, ◌∙◌, subst, arith}
 use Rattle.pages.specs.Image.{Image}
 use Rattle.orders.specs.Orders.{Order, Lawful, InSpaceOf}
 use Rattle.tree.specs.Tree.{count_at}
@@ -50,19 +50,6 @@ refused_counts o c v call a n vs ea ev = subst (λ (b : Answer). Counts o c v ca
 apart : (o : Order) → Lawful o → (x y : List ℕ) → InSpaceOf o x → InSpaceOf o y → o.address x ≡ o.address y → x ≡ y
 apart o law x y ix iy e = sym (law.there x ix).1 ∙ ap o.point e ∙ (law.there y iy).1
 
--- one more, one less, the same
-one_more : (n m k : ℕ) → m ≡ n + k → k ≡ 1 → m ≡ suc n
-one_more n m k e f = omega arith
-
-one_less : (n m k : ℕ) → m ≡ n - k → k ≡ 1 → 1 ≤ n → suc m ≡ n
-one_less n m k e f le = omega arith
-
-none_more : (n m k : ℕ) → m ≡ n + k → k ≡ 0 → m ≡ n
-none_more n m k e f = omega arith
-
-none_less : (n m k : ℕ) → m ≡ n - k → k ≡ 0 → m ≡ n
-none_less n m k e f = omega arith
-
 module _ (o : Order) (law : Lawful o) (s u : State) (a : Answer) (v : Content) (f : Filed) (free y : List ℕ) (holds : Holds o s f)
     (ek : s.known ≡ known_of (tree_state f free) f.total) (inside : InSpaceOf o y) where
   -- the count at each address after a lodge and after a withdrawal
@@ -83,8 +70,8 @@ module _ (o : Order) (law : Lawful o) (s u : State) (a : Answer) (v : Content) (
       subst (λ (b : Answer). Counts o (filed f) v (lodges y) b) (sym ea)
       (subst (λ (w : Content). Counts o (filed f) w (lodges y) accepted) (sym ev) (
         inside,
-        one_more _ _ _ (after_both (o.address y)).0 (mark_same (o.address y)),
-        λ x ix ne. none_more _ _ _ (after_both (o.address x)).0 (elsewhere x ix ne),
+        omega (arith, (after_both (o.address y)).0, mark_same (o.address y)),
+        λ x ix ne. omega (arith, (after_both (o.address x)).0, elsewhere x ix ne),
       ))
 
   withdraw_counts : Changes o s f (Withdraws s.image (tree_state f free) (o.address y)) (withdraw_step (tree_state f free) (o.address y)).next (f.total - 1) a u v →
@@ -95,8 +82,8 @@ module _ (o : Order) (law : Lawful o) (s u : State) (a : Answer) (v : Content) (
       subst (λ (b : Answer). Counts o (filed f) v (withdraws y) b) (sym ea)
       (subst (λ (w : Content). Counts o (filed f) w (withdraws y) accepted) (sym ev) (
         inside,
-        one_less _ _ _ (after_both (o.address y)).1 (mark_same (o.address y)) copy.event,
-        λ x ix ne. none_less _ _ _ (after_both (o.address x)).1 (elsewhere x ix ne),
+        omega (arith, (after_both (o.address y)).1, mark_same (o.address y), copy.event),
+        λ x ix ne. omega (arith, (after_both (o.address x)).1, elsewhere x ix ne),
       ))
 
 all_stay : (o : Order) (c v : Content) → v ≡ c → AllStay o c v
@@ -132,11 +119,11 @@ counts_law o law s u a call step c kept = counts_of o law c (step.exact c kept).
 -- what a tally answers
 answers_count : (m m' : Image) (st : TreeState) (a n : ℕ) (r : Result ℕ Fault) → Tallies m st a r m' → counted n ≡ told_count r → n ≡ count_at (events_of st.tree) a
 answers_count m m' st a n (Ok k) t e = let same : n ≡ k = cc in same ∙ t.1
-answers_count m m' st a n (Err f) t e = let z : ◌≡◌ {A = ℕ} 0 1 = cc in absurd (omega arith)
+answers_count m m' st a n (Err f) t e = absurd cc
 
 answered : (o : Order) (x : List ℕ) (n : ℕ) (c v : Content) (s u : State) (a : Answer) → a ≡ counted n → Does o c s a u v (tallies x) → InSpaceOf o x × (n ≡ held_in o c x)
-answered o x n c v s u a e (not_open y names is ea eu ev) = let z : ◌≡◌ {A = ℕ} 0 1 = cc in absurd (omega arith)
-answered o x n c v s u a e (outside y h r t free names is out ea eu ev) = let z : ◌≡◌ {A = ℕ} 0 1 = cc in absurd (omega arith)
+answered o x n c v s u a e (not_open y names is ea eu ev) = absurd cc
+answered o x n c v s u a e (outside y h r t free names is out ea eu ev) = absurd cc
 answered o x n c v s u a e (tallied f free r m ec ek inside t ea eu ev) =
     (inside, answers_count s.image m (tree_state f free) (o.address x) n r t (sym e ∙ ea) ∙ ap (λ (w : Content). held_in o w x) (sym ec))
 

@@ -16,22 +16,19 @@ use Rattle.index.proofs.LawsBlank.{blank_law}
 use Rattle.index.proofs.LawsCounts.{counts_of, counts_law, answered_law}
 
 -- the test for the same point
-false_true : {A : Type 0} → false ≡ true → A
-false_true e = let z : ◌≡◌ {A = ℕ} 0 1 = cc in absurd (omega arith)
-
 same_true : (x y : List ℕ) → same x y ≡ true → x ≡ y
 same_true [] [] e = refl
-same_true [] (y ∷ ys) e = false_true e
-same_true (x ∷ xs) [] e = false_true e
+same_true [] (y ∷ ys) e = absurd cc
+same_true (x ∷ xs) [] e = absurd cc
 same_true (x ∷ xs) (y ∷ ys) e =
-    by_eq (λ (b : Bool). b ≡ true → (x ∷ xs) ≡ (y ∷ ys)) x y (same xs ys) false (λ q r. λ i. q i ∷ same_true xs ys r i) (λ ne r. false_true r) e
+    by_eq (λ (b : Bool). b ≡ true → (x ∷ xs) ≡ (y ∷ ys)) x y (same xs ys) false (λ q r. λ i. q i ∷ same_true xs ys r i) (λ ne r. absurd (cc r)) e
 
 same_refl : (x : List ℕ) → same x x ≡ true
 same_refl [] = refl
 same_refl (x ∷ xs) = by_eq (λ (b : Bool). b ≡ true) x x (same xs xs) false (λ q. same_refl xs) (λ ne. absurd (ne refl))
 
 same_false : (x y : List ℕ) → same x y ≡ false → x ≡ y → ⊥
-same_false x y e q = false_true (sym e ∙ subst (λ (z : List ℕ). same x z ≡ true) q (same_refl x))
+same_false x y e q = absurd (cc (e, subst (λ (z : List ℕ). same x z ≡ true) q (same_refl x)))
 
 by_same : (P : ℕ → Type 0) (y x : List ℕ) → (y ≡ x → P 1) → ((y ≡ x → ⊥) → P 0) → P (one_if_same y x)
 by_same P y x f g = cond_both (same y x) 1 0 P (λ e. f (same_true y x e)) (λ e. g (same_false y x e))

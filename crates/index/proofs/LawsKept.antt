@@ -1,5 +1,5 @@
 -- What holds in every kept state, and after a refusal.
-use Rattle.std.proofs.Common.{◌≡◌, ℕ, List, Result, sym, refl, ap, ◌∙◌, subst, arith}
+use Rattle.std.proofs.Common.{◌≡◌, ℕ, List, Result, sym, refl, ap, ◌∙◌, subst}
 use Rattle.pages.specs.Image.{Image, at}
 use Rattle.orders.specs.Orders.{Order}
 use Rattle.tree.specs.Tree.{Node, Held, Contents, counts}
@@ -10,12 +10,10 @@ use Rattle.tree.proofs.CopyKept.{number_law, range_law, sorted_law}
 use Rattle.faults.specs.Accesses.{contents}
 use Rattle.faults.specs.declared.fault.Fault.{Fault}
 use Rattle.index.specs.Model.{Call, Answer, State, Known, state, limit}
-use Rattle.index.specs.Model.Answer.{accepted, refused, found}
+use Rattle.index.specs.Model.Answer.{refused}
 use Rattle.index.specs.Model.Known.{shut, knows}
 use Rattle.index.specs.Keeping.{Content, Filed, Kept, Holds, top}
 use Rattle.index.specs.Keeping.Content.{blank, filed}
-use Rattle.searches.specs.declared.find.Find.{Find}
-use Rattle.tree.specs.SearchRuns.{Ending}
 use Rattle.index.specs.Changes.{Changes, tree_state}
 use Rattle.index.specs.Changes.Changes.{copy_refused, header_unpaid, changed}
 use Rattle.index.specs.Steps.{Does, Names}
@@ -30,7 +28,7 @@ sum_is m l h total most (held n) s = s.sum
 
 accounts : (o : Order) (m : Image) (k : Known) (c : Content) → Kept o (state m k) c → Accounts o (limit m) c k
 accounts o m shut c kept = tt
-accounts o m (knows h r t free) blank kept = let z : ◌≡◌ {A = ℕ} 0 1 = cc kept.0 in omega arith
+accounts o m (knows h r t free) blank kept = absurd (cc kept.0)
 accounts o m (knows h r t free) (filed f) holds =
     let st = tree_state f free in
     let z = tree_kept o m h r t free f holds in
@@ -57,12 +55,6 @@ pub step_accounts_law : StepAccountsLaw
 step_accounts_law o s u a call step c kept = accounts_law o u (step.exact c kept).next (step.exact c kept).kept
 
 -- Refusals
-no_refusal : {A : Type 0} (a : Answer) (n : ℕ) (vs : List ℕ) → a ≡ accepted → a ≡ refused n vs → A
-no_refusal a n vs e f = let z : ◌≡◌ {A = ℕ} 0 1 = cc in absurd (omega arith)
-
-found_not_refused : {A : Type 0} (a : Answer) {fs : List Find} {r : ℕ} {y : Ending} (n : ℕ) (vs : List ℕ) → a ≡ found fs r y → a ≡ refused n vs → A
-found_not_refused a n vs e f = let z : ◌≡◌ {A = ℕ} 0 1 = cc in absurd (omega arith)
-
 named : (x : List ℕ) (before now : Known) → now ≡ before → (call : Call) → Names x call → KnowsAfter call before now
 named x before now e call lodging = e
 named x before now e call withdrawing = e
@@ -90,11 +82,11 @@ change_left o s u f Copy t total a c v n vs e ec ks ku (copy_refused fault m cop
     (ev ∙ sym ec, one_header o s u f c v ec ev ks ku, ap (λ (z : State). z.known) eu)
 change_left o s u f Copy t total a c v n vs e ec ks ku (header_unpaid g m copy z ea eu ev) =
     (ev ∙ sym ec, one_header o s u f c v ec ev ks ku, ap (λ (z : State). z.known) eu)
-change_left o s u f Copy t total a c v n vs e ec ks ku (changed g m copy paid ea eu ev) = no_refusal a n vs ea e
+change_left o s u f Copy t total a c v n vs e ec ks ku (changed g m copy paid ea eu ev) = absurd (cc (ea, e))
 
 left_alone : (o : Order) (n : ℕ) (vs : List ℕ) (c v : Content) (s u : State) (a : Answer) → a ≡ refused n vs → Kept o s c → Kept o u v → (call : Call) → Does o c s a u v call →
     LeftAlone c v s u call
-left_alone o n vs c v s u a e ks ku call (formatted le paid ea eu ev) = no_refusal a n vs ea e
+left_alone o n vs c v s u a e ks ku call (formatted le paid ea eu ev) = absurd (cc (ea, e))
 left_alone o n vs c v s u a e ks ku call (format_absent z ea eu ev) = (ev, ap (λ (z : State). at z.image 1) eu, ap (λ (z : State). z.known) eu)
 left_alone o n vs c v s u a e ks ku call (format_uncharged le z ea eu ev) = (ev, ap (λ (z : State). at z.image 1) eu, ap (λ (z : State). z.known) eu)
 left_alone o n vs c v s u a e ks ku call (open_few lt ea eu ev) = (ev, ap (λ (z : State). at z.image 1) eu, ap (λ (z : State). z.known) eu)
@@ -103,16 +95,16 @@ left_alone o n vs c v s u a e ks ku call (open_uncharged w le z ea eu ev) = (ev,
 left_alone o n vs c v s u a e ks ku call (open_no_header w le paid headless ea eu ev) = (ev, ap (λ (z : State). at z.image 1) eu, ap (λ (z : State). z.known) eu)
 left_alone o n vs c v s u a e ks ku call (open_other h w le paid proper es other ea eu ev) = (ev, ap (λ (z : State). at z.image 1) eu, ap (λ (z : State). z.known) eu)
 left_alone o n vs c v s u a e ks ku call (open_short f level ec w paid less scan ea eu ev) = (ev, ap (λ (z : State). at z.image 1) eu, ap (λ (z : State). z.known) eu)
-left_alone o n vs c v s u a e ks ku call (open_tree f ec w paid enough ea eu ev) = no_refusal a n vs ea e
+left_alone o n vs c v s u a e ks ku call (open_tree f ec w paid enough ea eu ev) = absurd (cc (ea, e))
 left_alone o n vs c v s u a e ks ku call (not_open x names is ea eu ev) = untouched c v s u x ev eu call names
 left_alone o n vs c v s u a e ks ku call (outside x h r t free names is out ea eu ev) = untouched c v s u x ev eu call names
 left_alone o n vs c v s u a e ks ku call (tallied f free r m ec ek inside t ea eu ev) =
     (ev, one_header o s u f c v ec (ev ∙ ec) ks ku, ap (λ (z : State). z.known) eu)
-left_alone o n vs c v s u a e ks ku call (searched f free ec ek il ih ea eu ev) = found_not_refused a n vs ea e
+left_alone o n vs c v s u a e ks ku call (searched f free ec ek il ih ea eu ev) = absurd (cc (ea, e))
 left_alone o n vs c v s u a e ks ku call (lodged f free ec ek inside changes) = change_left o s u f _ _ _ a c v n vs e ec ks ku changes
 left_alone o n vs c v s u a e ks ku call (withdrawn f free ec ek inside changes) = change_left o s u f _ _ _ a c v n vs e ec ks ku changes
-left_alone o n vs c v s u a e ks ku call (shut_down ea eu ev) = no_refusal a n vs ea e
-left_alone o n vs c v s u a e ks ku call (given ea eu ev) = no_refusal a n vs ea e
+left_alone o n vs c v s u a e ks ku call (shut_down ea eu ev) = absurd (cc (ea, e))
+left_alone o n vs c v s u a e ks ku call (given ea eu ev) = absurd (cc (ea, e))
 
 pub refused_law : RefusedLaw
 refused_law o s u n vs call step c kept =

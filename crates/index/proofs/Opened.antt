@@ -1,5 +1,6 @@
 -- What the code of an opening comes to.
 use Rattle.std.proofs.Common.{◌≡◌, ℕ, zero, suc, ◌+◌, ◌-◌, ◌≤◌, Bool, true, false, cond, not, eqb, List, [], ◌∷◌, length, get_or, Ok, Err, Result, sym, refl, ap, ◌∙◌, subst, inl, inr, zero-add, add-one, arith}
+use mathlib.Core.Bool.{not-not}
 use Rattle.std.proofs.lemmas.Bool.{ne_eqb}
 use Rattle.records.specs.Chain.{unmarked}
 use Rattle.pages.specs.Image.{Image, at, Reads, spent}
@@ -71,15 +72,11 @@ new_times : (k : ℕ) (seen : List ℕ) → is_new k seen ≡ eqb (times k seen)
 new_times k [] = refl
 new_times k (x ∷ xs) = one_more (eqb x k) (is_new k xs) (times k xs) (new_times k xs)
 
-twice : (b : Bool) → not (not b) ≡ b
-twice true = refl
-twice false = refl
-
 -- the pages that are not marked are those not seen
 free_marked : (marks : List Bool) (seen : List ℕ) (a n : ℕ) → Marked marks seen → unmarked marks a n ≡ unused seen (upward a n)
 free_marked marks seen a zero marked = refl
 free_marked marks seen a (suc n) marked =
-    let test : not (get_or marks a false) ≡ eqb (times a seen) 0 = ap not (marked a) ∙ twice (is_new a seen) ∙ new_times a seen in
+    let test : not (get_or marks a false) ≡ eqb (times a seen) 0 = ap not (marked a) ∙ not-not (is_new a seen) ∙ new_times a seen in
     let rest : unmarked marks (a + 1) n ≡ unused seen (upward (suc a) n) = free_marked marks seen (a + 1) n marked ∙ ap (λ (k : ℕ). unused seen (upward k n)) (add-one a) in
     λ i. cond (test i) (a ∷ rest i) (rest i)
 

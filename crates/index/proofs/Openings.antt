@@ -96,7 +96,7 @@ module _ (o : Order) (law : Lawful o) (m : Image) (k : Known) (work : ℕ) where
       Goes o (filed f) (state m k) (refused 9 (p ∷ level ∷ 2 ∷ [])) (state (granted m 0) shut) (opens work)
   on_short f p level holds records charged e =
       elim (ends (contents m) (limit m) (m.charge - 1) f.height f.total (top o) f.tree holds.sound) [
-        | inl enough ↦ let z : ◌≡◌ {A = ℕ} 0 1 = cc (e, enough.1) in absurd (omega arith)
+        | inl enough ↦ absurd (cc (e, enough.1))
         | inr less ↦
             let ep : p ≡ get_or (pages_of f.tree) (m.charge - 1) 0 = cc (e, less.1.1) in
             let el : level ≡ less.1.0 = cc (e, less.1.1) in
@@ -127,7 +127,7 @@ module _ (o : Order) (law : Lawful o) (m : Image) (k : Known) (work : ℕ) where
       Goes o (filed f) (state m k) accepted (state (granted m left) (knows f.height (root_of f.tree) f.total (unused seen (usable (limit m))))) (opens work)
   on_sound f seen sum left holds records charged e =
       elim (ends (contents m) (limit m) (m.charge - 1) f.height f.total (top o) f.tree holds.sound) [
-        | inr less ↦ let z : ◌≡◌ {A = ℕ} 0 1 = cc (e, less.1.1) in absurd (omega arith)
+        | inr less ↦ absurd (cc (e, less.1.1))
         | inl enough ↦
             let free : List ℕ = unused (pages_of f.tree) (usable (limit m)) in
             let es : seen ≡ marked [] (pages_of f.tree) = cc (e, enough.1) in

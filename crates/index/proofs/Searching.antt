@@ -1,6 +1,6 @@
 -- A search is a step.
-use Rattle.std.proofs.Common.{◌≡◌, ℕ, ◌-◌, ◌≤◌, min, List, [], ◌∷◌, length, take, sym, refl, ap, subst, arith}
-use Rattle.std.specs.List.{AllByRecursion}
+use Rattle.std.proofs.Common.{◌≡◌, ℕ, ◌-◌, ◌≤◌, List, [], length, take, sym, refl, ap, subst, arith}
+use Rattle.std.proofs.ByRecursion.{All-weaker}
 use Rattle.pages.specs.Image.{Image}
 use Rattle.orders.specs.Orders.{Order, InSpaceOf}
 use Rattle.faults.specs.Accesses.{contents}
@@ -29,11 +29,6 @@ use Rattle.index.proofs.Keeps.{same_pages}
 use Rattle.index.proofs.Changing.{knows_file}
 use Rattle.index.proofs.Tallying.{open_steps}
 
--- pages that a tree may use are pages of the store
-in_store : (l n : ℕ) → l ≡ min n 1024 → (ps : List ℕ) → AllByRecursion (λ p. (2 ≤ p) × (p ≤ l)) ps → AllByRecursion (λ p. (2 ≤ p) × (p ≤ n)) ps
-in_store l n e [] a = tt
-in_store l n e (p ∷ ps) ((two, le), rest) = ((two, omega arith), in_store l n e ps rest)
-
 tells_answer : (o : Order) (out : Outcome) (r : Found) (memory : List Find) → Tells o out r memory → found (take r.count memory) r.reads (ending_of r.ending) ≡ answer_of o out
 tells_answer o out r memory t = λ i. found (t.finds i) (t.reads i) (t.ending i)
 
@@ -49,7 +44,7 @@ module _ (o : Order) (m m' : Image) (h root start : ℕ) (lo hi : List ℕ) (mem
         sym er,
         subst (λ (k : ℕ). Level n k) (sym eh) sound.levels,
         sound.stands,
-        in_store (limit m) (length m.pages) refl (pages n) sound.range,
+        All-weaker (λ (p : ℕ). (2 ≤ p) × (p ≤ limit m)) (λ (p : ℕ). (2 ≤ p) × (p ≤ length m.pages)) (λ p a. (a.0, omega (arith, a.1))) (pages n) sound.range,
       ) in
       s.tree n stands sound.ordered refl il ih
 

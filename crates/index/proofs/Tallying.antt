@@ -66,7 +66,7 @@ tallied_pages m m' l p a (Err f) t = read_pages m m' l p a f t
 
 open_goes : (o : Order) (m : Image) (h r t : ℕ) (free : List ℕ) (a : Answer) (u : State) (call : Call) (c : Content) → Kept o (state m (knows h r t free)) c →
     ((f : Filed) → Holds o (state m (knows h r t free)) f → Goes o (filed f) (state m (knows h r t free)) a u call) → Goes o c (state m (knows h r t free)) a u call
-open_goes o m h r t free a u call blank kept go = let z : ◌≡◌ {A = ℕ} 0 1 = cc kept.0 in absurd (omega arith)
+open_goes o m h r t free a u call blank kept go = absurd (cc kept.0)
 open_goes o m h r t free a u call (filed f) kept go = go f kept
 
 pub open_steps : (o : Order) (m m' : Image) (h r t : ℕ) (free : List ℕ) (a : Answer) (k' : Known) (call : Call) → length m'.pages ≡ length m.pages →

@@ -23,7 +23,12 @@ search_of o lo hi start (held n) charge room = search_run (inside o lo hi) start
 abbrev pub answer_of : Order → Outcome → Answer
 answer_of o out = found (finds_of o out) out.reads out.ending
 
--- The memory lent for finds: past them it is as it was, and a refused search leaves all of it.
+-- the memory lent for finds: they fit in it, and past them it is as it was
+pub record LentBack (r : Found) (before after : List Find) : Type 0 where
+  pub fits : r.count ≤ length before
+  pub rest : after ≡ take r.count after ++ drop r.count before
+
+-- a refused search leaves all of it
 abbrev pub Lends : Result Found Fault → List Find → List Find → Type 0
-Lends (Ok r) before after = (r.count ≤ length before) × (after ≡ take r.count after ++ drop r.count before)
+Lends (Ok r) before after = LentBack r before after
 Lends (Err f) before after = after ≡ before

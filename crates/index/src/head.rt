@@ -34,7 +34,7 @@ pub(crate) fn read_head<S: PageStore, O: PointOrder>(
     Ok(header)
 }
 
-// Writes page 1: the header of a tree of this order, with this root and so many events.
+// Writes page 1: the header of a tree of this order, with this root and so many events; or the refusal 8 or 17.
 pub(crate) fn write_head<S: PageStore, O: PointOrder>(
     store: &mut S,
     order: &O,
