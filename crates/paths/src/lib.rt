@@ -2,9 +2,12 @@
 #![tactic(auto)]
 
 pub mod copied;
+mod halves;
 mod left;
 pub mod lodge;
+mod lodge_edits;
 mod page;
+mod page_entries;
 mod place;
 mod plan;
 mod taken;

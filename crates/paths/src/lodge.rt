@@ -1,78 +1,45 @@
 // Lodge: one more event at an address, by copying the path to its leaf.
-ghost use Rattle.std.specs.Prelude.{◌≡◌, ℕ, ◌+◌, ◌<◌, ◌≤◌, length, IfOk};
+ghost use Rattle.std.specs.Prelude.{◌≡◌, ℕ, ◌+◌, ◌≤◌, length, IfOk};
 ghost use Rattle.records.specs.Free.{numbers};
-ghost use Rattle.layout.specs.Edits.{found};
 ghost use Rattle.layout.specs.Listed.{entries};
-ghost use Rattle.tree.specs.CopyMoves.{enter};
-ghost use Rattle.tree.specs.CopyPages.{fit_leaf, fit_inner, swap};
-ghost use Rattle.paths.specs.PathsReading.{counted, IsPath};
-ghost use Rattle.paths.specs.LodgePlaces.{halves_of, pages_in, Fits};
+ghost use Rattle.paths.specs.PathsReading.{IsPath};
+ghost use Rattle.paths.specs.LodgePlaces.{pages_in};
 ghost use Rattle.paths.specs.LodgeRules.{Leafed, Lodged};
 ghost use Rattle.paths.specs.LodgeTree.{Roots, LodgedBy};
 ghost use Rattle.paths.specs.LodgeKept.{LodgeIs, LodgeNextLaw, LodgeFreeLaw, LodgeRefusedLaw};
 
 use crate::copied::Copied;
+use crate::halves::Halves;
 use crate::page::{read_page, write_items};
+use crate::page_entries::PageEntries;
 use crate::place::{Placed, place};
 use crate::plan::Plan;
 use crate::taken::Taken;
-use crate::tally::{child_in, count_in};
 use faults::fault::Fault;
-use layout::change::{ChildPages, RightHalf};
+use layout::change::ChildPages;
 use layout::entry::Entry;
-use layout::list::EntryList;
 use layout::page_ref::PageRef;
 use pages::store::PageStore;
 use records::free::FreeList;
 
-// In a leaf: one more at an address whose count is below the greatest.
-fn enter(list: &mut EntryList, address: u64)
-    requires short { length (entries list.old) ≤ 10 }
-    requires low { counted (found address (entries list.old)) < 65535 }
-    ensures { entries list.new ≡ enter address (entries list.old) }
-{
-    let _ = list.enter(address);
-}
-
-// A leaf of eleven becomes two.
-fn split_leaf(list: &mut EntryList) -> Option<RightHalf>
-    ensures halves { halves_of (entries list.new) result ≡ fit_leaf (entries list.old) }
-    ensures fits { Fits (halves_of (entries list.new) result) }
-{
-    list.split_leaf()
-}
-
-// In an inner page: the child's new pages in its place; a page of eleven becomes two.
-fn renew_child(list: &mut EntryList, address: u64, pages: ChildPages) -> Option<RightHalf>
-    requires { length (entries list.old) ≤ 10 }
-    ensures halves { halves_of (entries list.new) result ≡ fit_inner (swap (entries list.old) address (pages_in pages)) }
-    ensures fits { Fits (halves_of (entries list.new) result) }
-{
-    let _ = list.put_child(address, pages);
-    list.split_inner()
-}
-
 // At a leaf that was read: asks whether the count is below the greatest (14), then the plan's questions, and writes.
 fn lodge_leaf<S: PageStore>(
     store: &mut S,
-    list: &mut EntryList,
+    page: PageEntries,
     address: u64,
     plan: Plan,
     taken: Taken,
 ) -> Result<Placed, Fault>
-    requires short { length (entries list.old) ≤ 10 }
-    requires few { plan.base + plan.extra ≤ 1000 }
-    requires first { taken.used ≡ 0 }
-    ensures leafs { Leafed (S.meaning store.old) (entries list.old) address (numbers taken.entry.free.now) plan result (S.meaning store.new) }
+    requires { taken.used ≡ 0 }
+    ensures leafs { Leafed (S.meaning store.old) (entries page.list) address (numbers taken.entry.free.now) plan result (S.meaning store.new) }
     ensures path { IfOk result (λ g. g.path ≡ taken.entry.path) }
 {
-    if count_in(list, address) >= 65535 {
+    if page.count(address) >= 65535 {
         return Err(Fault::CountFull);
     }
-    enter(list, address);
+    let list = page.entered(address);
     plan.ask(list.len(), taken.free.len())?;
-    let right = split_leaf(list);
-    place(store, 1, list, right, taken)
+    place(store, 1, Halves::of_leaf(list), taken)
 }
 
 // Lodge at a page of a path.
@@ -86,21 +53,20 @@ fn lodge_at<S: PageStore>(
     requires one { 1 ≤ at.level }
     requires low { at.level ≤ plan.base }
     requires six { at.level ≤ 6 }
-    requires few { plan.base + plan.extra + at.level ≤ 1000 }
+    requires few { plan.extra + at.level ≤ 255 }
     ensures lodges { Lodged (S.meaning store.old) at.level at.page address (numbers free.now) plan result (S.meaning store.new) }
     ensures path { IfOk result (λ g. IsPath (S.meaning store.old) at.level at.page address g.path.items) }
 {
-    let mut list = read_page(store, at)?;
+    let page = read_page(store, at)?;
     if at.level == 1 {
         let taken = Taken::none(free).with_old(at.page);
-        return lodge_leaf(store, &mut list, address, plan, taken);
+        return lodge_leaf(store, page, address, plan, taken);
     }
-    let child = child_in(&list, at, address);
-    let deep = plan.below(list.len());
+    let child = page.child(at, address);
+    let deep = plan.below(page.list.len());
     let Placed { pages, used, path } = lodge_at(store, child, address, deep, free)?;
     let taken = Taken { free, used, path }.with_old(at.page);
-    let right = renew_child(&mut list, address, pages);
-    place(store, at.level, &list, right, taken)
+    place(store, at.level, page.renew_child(address, pages), taken)
 }
 
 // A new root over the two pages of a root that was split.
@@ -188,7 +154,7 @@ fn lodge_tree<S: PageStore>(
         return first_leaf(store, root.page, address, free);
     }
     let plan = Plan {
-        base: root.level as usize,
+        base: root.level,
         extra: 1,
         height: root.level + 1,
     };

@@ -9,11 +9,9 @@ ghost use Rattle.paths.specs.WithdrawRules.{RoomFor, Withdrew, WithdrawIs, Withd
 use crate::copied::Copied;
 use crate::left::Left;
 use crate::page::{read_page, write_entries};
+use crate::page_entries::PageEntries;
 use crate::taken::Taken;
-use crate::tally::child_in;
-use crate::withdraw_edits::{restore_child, take_one};
 use faults::fault::Fault;
-use layout::list::EntryList;
 use layout::page_ref::PageRef;
 use pages::store::PageStore;
 use records::free::FreeList;
@@ -22,25 +20,27 @@ use records::free::FreeList;
 fn place_left<S: PageStore>(
     store: &mut S,
     level: u8,
-    list: &EntryList,
+    page: &PageEntries,
     mut taken: Taken,
 ) -> Result<Left, Fault>
-    requires few { length (entries list.now) ≤ 10 }
-    requires room { taken.used < length (numbers taken.free.now) }
-    ensures places { PlacesLeft (S.meaning store.old) level (entries list.now) (numbers taken.entry.free.now) taken.entry.used result (S.meaning store.new) }
+    requires { taken.used < length (numbers taken.free.now) }
+    ensures places { PlacesLeft (S.meaning store.old) level (entries page.now.list) (numbers taken.entry.free.now) taken.entry.used result (S.meaning store.new) }
     ensures path { IfOk result (λ g. g.path ≡ taken.entry.path) }
 {
-    if list.len() == 0 {
+    if page.list.len() == 0 {
         return Ok(Left {
             page: None,
             used: taken.used,
             path: taken.path,
         });
     }
-    let page = taken.next();
-    write_entries(store, PageRef { page, level }, list)?;
+    let at = PageRef {
+        page: taken.next(),
+        level,
+    };
+    write_entries(store, at, page)?;
     Ok(Left {
-        page: Some(page),
+        page: Some(at.page),
         used: taken.used,
         path: taken.path,
     })
@@ -59,17 +59,18 @@ fn withdraw_at<S: PageStore>(
     ensures withdraws { Withdrawn (S.meaning store.old) at.level at.page address (numbers free.now) result (S.meaning store.new) }
     ensures path { IfOk result (λ g. IsPath (S.meaning store.old) at.level at.page address g.path.items) }
 {
-    let mut list = read_page(store, at)?;
+    let mut page = read_page(store, at)?;
     if at.level == 1 {
-        take_one(&mut list, address)?;
+        page.take_one(address)?;
         let taken = Taken::none(free).with_old(at.page);
-        return place_left(store, 1, &list, taken);
+        return place_left(store, 1, &page, taken);
     }
-    let child = child_in(&list, at, address);
-    let Left { page, used, path } = withdraw_at(store, child, address, free)?;
+    let child = page.child(at, address);
+    let below = withdraw_at(store, child, address, free)?;
+    page.restore_child(address, below.page);
+    let Left { used, path, .. } = below;
     let taken = Taken { free, used, path }.with_old(at.page);
-    restore_child(&mut list, address, page);
-    place_left(store, at.level, &list, taken)
+    place_left(store, at.level, &page, taken)
 }
 
 // Whether a path of this height can be copied: it has at most six pages, and as many are free.
