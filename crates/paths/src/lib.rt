@@ -10,6 +10,7 @@ mod page;
 mod page_entries;
 mod place;
 mod plan;
+mod step;
 mod taken;
 pub mod tally;
 pub mod withdraw;

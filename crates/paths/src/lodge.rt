@@ -14,6 +14,7 @@ use crate::page::{read_page, write_items};
 use crate::page_entries::PageEntries;
 use crate::place::{Placed, place};
 use crate::plan::Plan;
+use crate::step::Step;
 use crate::taken::Taken;
 use faults::fault::Fault;
 use layout::change::ChildPages;
@@ -45,51 +46,55 @@ fn lodge_leaf<S: PageStore>(
 // Lodge at a page of a path.
 fn lodge_at<S: PageStore>(
     store: &mut S,
-    at: PageRef,
+    step: Step,
     address: u64,
     plan: Plan,
     free: &FreeList,
 ) -> Result<Placed, Fault>
-    requires one { 1 ≤ at.level }
-    requires low { at.level ≤ plan.base }
-    requires six { at.level ≤ 6 }
-    requires few { plan.extra + at.level ≤ 255 }
-    ensures lodges { Lodged (S.meaning store.old) at.level at.page address (numbers free.now) plan result (S.meaning store.new) }
-    ensures path { IfOk result (λ g. IsPath (S.meaning store.old) at.level at.page address g.path.items) }
+    requires low { step.at.level ≤ plan.base }
+    requires few { plan.extra + step.at.level ≤ 255 }
+    ensures lodges { Lodged (S.meaning store.old) step.at.level step.at.page address (numbers free.now) plan result (S.meaning store.new) }
+    ensures path { IfOk result (λ g. IsPath (S.meaning store.old) step.at.level step.at.page address g.path.items) }
 {
-    let page = read_page(store, at)?;
-    if at.level == 1 {
-        let taken = Taken::none(free).with_old(at.page);
+    let page = read_page(store, step.at)?;
+    if step.at.level == 1 {
+        let taken = Taken::none(free).with_old(step.at.page);
         return lodge_leaf(store, page, address, plan, taken);
     }
-    let child = page.child(at, address);
+    let child = Step {
+        at: page.child(step.at, address),
+    };
     let deep = plan.below(page.list.len());
     let Placed { pages, used, path } = lodge_at(store, child, address, deep, free)?;
-    let taken = Taken { free, used, path }.with_old(at.page);
-    place(store, at.level, page.renew_child(address, pages), taken)
+    let taken = Taken { free, used, path }.with_old(step.at.page);
+    place(
+        store,
+        step.at.level,
+        page.renew_child(address, pages),
+        taken,
+    )
 }
 
 // A new root over the two pages of a root that was split.
 fn new_root<S: PageStore>(
     store: &mut S,
-    height: u8,
+    old: Step,
     pages: ChildPages,
     mut taken: Taken,
 ) -> Result<Copied, Fault>
-    requires enough { taken.used + 1 ≤ length (numbers taken.free.now) }
-    requires low { height ≤ 6 }
-    ensures roots { Roots (S.meaning store.old) height (pages_in pages) (numbers taken.entry.free.now) taken.entry.used result (S.meaning store.new) }
+    requires { taken.used + 1 ≤ length (numbers taken.free.now) }
+    ensures roots { Roots (S.meaning store.old) old.at.level (pages_in pages) (numbers taken.entry.free.now) taken.entry.used result (S.meaning store.new) }
     ensures path { IfOk result (λ g. g.path ≡ taken.entry.path) }
 {
     let root = match pages {
         ChildPages::One(page) => PageRef {
             page,
-            level: height,
+            level: old.at.level,
         },
         ChildPages::Two(left, key, right) => {
             let root = PageRef {
                 page: taken.next(),
-                level: height + 1,
+                level: old.at.level + 1,
             };
             let items = [
                 Entry { key, value: left },
@@ -141,27 +146,6 @@ fn first_leaf<S: PageStore>(
     })
 }
 
-fn lodge_tree<S: PageStore>(
-    store: &mut S,
-    root: PageRef,
-    address: u64,
-    free: &FreeList,
-) -> Result<Copied, Fault>
-    requires { root.level ≤ 6 }
-    ensures { LodgedBy (S.meaning store.old) root.level root.page address (numbers free.now) result (S.meaning store.new) }
-{
-    if root.level == 0 {
-        return first_leaf(store, root.page, address, free);
-    }
-    let plan = Plan {
-        base: root.level,
-        extra: 1,
-        height: root.level + 1,
-    };
-    let Placed { pages, used, path } = lodge_at(store, root, address, plan, free)?;
-    new_root(store, root.level, pages, Taken { free, used, path })
-}
-
 // Lodges one event at an address in the tree under this root: writes its new pages to the front of the free pages, leaf
 // first, upward, and leaves the header and the free list as they are. Asked in this order: the path is read (9); the count is below
 // 65,535 (14); the height stays at most 6 (15); k pages are needed and k + 6 are free (16); the pages are written (17).
@@ -176,7 +160,17 @@ pub fn lodge<S: PageStore>(
     if root.level > 6 {
         return Err(Fault::HeightFull);
     }
-    lodge_tree(store, root, address, free)
+    if root.level == 0 {
+        return first_leaf(store, root.page, address, free);
+    }
+    let plan = Plan {
+        base: root.level,
+        extra: 1,
+        height: root.level + 1,
+    };
+    let step = Step { at: root };
+    let Placed { pages, used, path } = lodge_at(store, step, address, plan, free)?;
+    new_root(store, step, pages, Taken { free, used, path })
 }
 
 // After a lodge the new tree is kept in the store, and its free list is the old path before the pages that are left; after a
