@@ -117,11 +117,10 @@ fn new_root<S: PageStore>(
 // The first leaf of an empty tree.
 fn first_leaf<S: PageStore>(
     store: &mut S,
-    old: u16,
     address: u64,
     free: &FreeList,
 ) -> Result<Copied, Fault>
-    ensures { LodgedBy (S.meaning store.old) 0 old address (numbers free.now) result (S.meaning store.new) }
+    ensures { LodgedBy (S.meaning store.old) 0 0 address (numbers free.now) result (S.meaning store.new) }
 {
     if free.len() < 7 {
         return Err(Fault::Room);
@@ -161,7 +160,7 @@ pub fn lodge<S: PageStore>(
         return Err(Fault::HeightFull);
     }
     if root.level == 0 {
-        return first_leaf(store, root.page, address, free);
+        return first_leaf(store, address, free);
     }
     let plan = Plan {
         base: root.level,

@@ -78,7 +78,7 @@ fn withdraw_at<S: PageStore>(
 fn has_room(height: u8, free: &FreeList) -> bool
     ensures { Decides result (RoomFor height (numbers free.now)) }
 {
-    height <= 6 && height as usize <= free.len() as usize
+    height <= 6 && height as u16 <= free.len()
 }
 
 // Takes one event back at an address from the tree under this root. Asked in this order, before any write: does the charge
