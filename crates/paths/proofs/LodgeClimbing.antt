@@ -151,6 +151,13 @@ below m m₂ m' h k p a child es free x y r w e t =
     subst (λ (z : Plan). Lodged (spent m) (suc h) (pick (contents m p).entries a) a free z r m') (e ∙ ap (λ (z : List Entry). plan_below (length z) x) w.holds)
     (at_child (λ u v z. Lodged u v z a free y r m') m m₂ h k p a child es w t)
 
+-- the child's plan is that of the page's own length
+pub plan_at : (n : ℕ) (es : List Entry) (x y : Plan) → y ≡ plan_below n x → n ≡ length es → y ≡ plan_below (length es) x
+plan_at n es x y e q = e ∙ ap (λ (k : ℕ). plan_below k x) q
+
+pub same_base : (n : ℕ) (x y : Plan) → y ≡ plan_below n x → y.base ≡ x.base
+same_base n x y e = ap (λ (z : Plan). z.base) e
+
 pub lodge_fails : (l k : ℕ) (m m₂ m' : Image) (p a child : ℕ) (es : List Entry) (free : List ℕ) (x y : Plan) (f : Fault) → Goes m m₂ l k p a child es → y ≡ plan_below (length es) x
     → Lodged m₂ k child a free y (Err f) m' → Lodged m l p a free x (Err f) m'
 lodge_fails zero k m m₂ m' p a child es free x y f w e t = absurd (omega (arith, w.inner))

@@ -24,7 +24,8 @@ use Rattle.paths.specs.declared.place.Placed.{Placed}
 use Rattle.paths.specs.declared.plan.Plan.{Plan}
 use Rattle.paths.specs.PathsWrites.{after_reads, Wrote, Unwrites}
 use Rattle.paths.specs.PathsPages.{write_of}
-use Rattle.paths.specs.PathsReading.{IsPath}
+use Rattle.paths.specs.PathsReading.{IsPath, Misread}
+use Rattle.paths.specs.PathsReading.Misread.{refused, broken}
 use Rattle.paths.specs.LodgePlaces.{pages_in}
 use Rattle.paths.specs.LodgeRules.{Allowed, Denied, Lodged, count_under, height_under, takes_under}
 use Rattle.paths.specs.LodgeRules.Denied.{full, high, few}
@@ -204,5 +205,16 @@ first_made m m' p a q n next (x ∷ xs) path i b e l z w = (
   subst (λ (y : ℕ). Wrote (write_of 1 y (entry a 1 ∷ []) ∷ []) (after_reads m 0) m') z (subst (λ (y : Image). Wrote (write_of 1 q (entry a 1 ∷ []) ∷ []) y m') (after_none m) w),
 )
 
-pub tree_empty : (m m' : Image) (h p a : ℕ) (free : List ℕ) (r : Result Copied Fault) → h ≡ 0 → LodgedBy m 0 p a free r m' → LodgedBy m h p a free r m'
-tree_empty m m' h p a free r e t = subst (λ (x : ℕ). LodgedBy m x p a free r m') (sym e) t
+never_misread : (m m' : Image) (p a : ℕ) (f : Fault) → Misread m 0 p a f m' → ⊥
+never_misread m m' p a f (refused d x e s k r i) = omega (arith, s.within)
+never_misread m m' p a f (broken d q v r e s k b i) = omega (arith, s.within)
+
+-- an empty tree has no root to read
+any_root : (m m' : Image) (p a : ℕ) (free : List ℕ) (r : Result Copied Fault) → LodgedBy m 0 0 a free r m' → LodgedBy m 0 p a free r m'
+unfolding leaf_at path_at
+any_root m m' p a free (Ok g) t = t
+any_root m m' p a free (Err f) (inl t) = absurd (never_misread m m' 0 a f t)
+any_root m m' p a free (Err f) (inr t) = inr t
+
+pub tree_empty : (m m' : Image) (h p a : ℕ) (free : List ℕ) (r : Result Copied Fault) → h ≡ 0 → LodgedBy m 0 0 a free r m' → LodgedBy m h p a free r m'
+tree_empty m m' h p a free r e t = subst (λ (x : ℕ). LodgedBy m x p a free r m') (sym e) (any_root m m' p a free r t)

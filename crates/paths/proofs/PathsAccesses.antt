@@ -43,6 +43,9 @@ pub page_empty : (m m' : Image) (p l n : ℕ) (b : List ℕ) (es : List Entry) �
 page_empty m m' p l n b es r o e q z =
     broken C refl r.1 (subst (λ (x : List ℕ). Own p l (content_of x)) r.2 o, ap entries_of (sym r.2) ∙ sym e ∙ none_left es n q z) r.3
 
+pub read_few : (b : List ℕ) (es : List Entry) → es ≡ entries_of b → length es ≤ 10
+read_few b es e = omega (arith, ap length e, length_entries b)
+
 pub page_read : (m m' : Image) (p l n : ℕ) (b : List ℕ) (es : List Entry) → Reads m p [] (Ok tt) m' b → Own p l (content_of b) → es ≡ entries_of b → n ≡ length es → (n ≡ 0 → ⊥) → Read m p l es m'
 page_read m m' p l n b es r o e q z = record {
   has = r.0;

@@ -1,10 +1,10 @@
 -- The edits of one page are the tree's.
-use Rattle.std.proofs.Common.{◌≡◌, ℕ, suc, ◌-◌, ◌≤◌, Bool, true, false, cond, eqb, leb, List, [], ◌∷◌, length, Some, None, Option, Ok, Err, Result, sym, refl, ap, ◌∙◌, arith}
+use Rattle.std.proofs.Common.{◌≡◌, ℕ, suc, ◌-◌, ◌≤◌, Bool, true, false, cond, eqb, leb, List, [], ◌∷◌, length, Some, None, Option, sym, refl, ap, ◌∙◌, arith}
 use Rattle.layout.specs.declared.entry.Entry.{Entry}
 use Rattle.layout.specs.declared.change.ChildPages.TheVariants.{One}
 use Rattle.layout.specs.Edits as page
-use Rattle.layout.specs.declared.change.Full.{Full}
 use Rattle.layout.specs.Edits.{found}
+use Rattle.layout.specs.declared.change.Full.{Full}
 use Rattle.layout.specs.Changes.{Removes, Puts}
 use Rattle.tree.specs.Tree.{Held}
 use Rattle.tree.specs.Tree.Held.{none, held}
@@ -25,11 +25,9 @@ remove_length a (e ∷ es) =
     (λ _. by_le (λ (x : List Entry). length x ≤ suc (length es)) e.value 1 _ _ (λ _. omega arith) (λ _. omega arith))
     (λ _. omega (arith, remove_length a es))
 
-pub takes_one : (a : ℕ) (es after : List Entry) (r : Bool) → length es ≤ 10 → r ≡ true → Removes a es r after → LessOne a es after
-takes_one a es after true n y t =
-    let e = t.1 ∙ remove_same a es in
-    record { event = t.0; less = e; few = omega (arith, ap length e, remove_length a es) }
-takes_one a es after false n y t = differ y
+pub takes_one : (a : ℕ) (es after : List Entry) (r : Bool) → r ≡ true → Removes a es r after → LessOne a es after
+takes_one a es after true y t = record { event = t.0; less = t.1 ∙ remove_same a es }
+takes_one a es after false y t = differ y
 
 pub takes_none : (a : ℕ) (es after : List Entry) (r : Bool) → r ≡ false → Removes a es r after → (found a es ≡ None) × (after ≡ es)
 takes_none a es after true y t = differ (sym y)
@@ -75,15 +73,23 @@ put_same (e ∷ []) a v = refl
 put_same (e ∷ (d ∷ es)) a v =
     ap (λ (z : List Entry). cond (leb a e.key) (entry e.key v ∷ (d ∷ es)) z) (ap (λ (z : List Entry). e ∷ z) (put_same (d ∷ es) a v) ∙ sym (before_some e d es a v))
 
-pub restores_some : (a v : ℕ) (es after : List Entry) (r : Result (Unit {0}) Full) (left : Option ℕ) → length es ≤ 10 → left ≡ Some v → Puts a (One v) es r after
-    → (length after ≤ 10) × (after ≡ clear es a (left_of left))
-restores_some a v es after (Ok u) left n q t =
-    let e = t ∙ put_same es a v ∙ ap (λ (x : Option ℕ). clear es a (left_of x)) (sym q) in
-    (omega (arith, ap length e, clear_length es a (left_of left)), e)
-restores_some a v es after (Err f) left n q t = absurd (omega (arith, t.0))
+few_left : (es after : List Entry) (a : ℕ) (left : Held ℕ) → length es ≤ 10 → after ≡ clear es a left → length after ≤ 10
+few_left es after a left n e = omega (arith, n, ap length e, clear_length es a left)
 
-pub restores_none : (a : ℕ) (es after : List Entry) (left : Option ℕ) → length es ≤ 10 → left ≡ None → after ≡ page.drop_child_lem es a
-    → (length after ≤ 10) × (after ≡ clear es a (left_of left))
-restores_none a es after left n q t =
-    let e = t ∙ drop_same es a ∙ ap (λ (x : Option ℕ). clear es a (left_of x)) (sym q) in
-    (omega (arith, ap length e, clear_length es a (left_of left)), e)
+-- and they leave at most ten
+pub restores_some : (a v : ℕ) (es after : List Entry) (r : Result (Unit {0}) Full) (left : Option ℕ) → length es ≤ 10 → left ≡ Some v → Puts a (One v) es r after → after ≡ clear es a (left_of left)
+restores_some a v es after (Ok u) left n q t = t ∙ put_same es a v ∙ ap (λ (x : Option ℕ). clear es a (left_of x)) (sym q)
+restores_some a v es after (Err f) left n q t = absurd (omega (arith, n, t.0))
+
+pub restores_none : (a : ℕ) (es after : List Entry) (left : Option ℕ) → left ≡ None → after ≡ page.drop_child_lem es a → after ≡ clear es a (left_of left)
+restores_none a es after left q t = t ∙ drop_same es a ∙ ap (λ (x : Option ℕ). clear es a (left_of x)) (sym q)
+
+pub few_some : (a v : ℕ) (es after : List Entry) (r : Bool) → length es ≤ 10 → Puts a (One v) es r after → length after ≤ 10
+few_some a v es after r n t = few_left es after a (held v) n (restores_some a v es after r (Some v) n refl t)
+
+pub few_none : (a : ℕ) (es after : List Entry) → length es ≤ 10 → after ≡ page.drop_child_lem es a → length after ≤ 10
+few_none a es after n t = few_left es after a none n (restores_none a es after None refl t)
+
+pub few_taken : (a : ℕ) (es after : List Entry) (r : Bool) → length es ≤ 10 → Removes a es r after → length after ≤ 10
+few_taken a es after true n t = omega (arith, n, ap length (t.1 ∙ remove_same a es), remove_length a es)
+few_taken a es after false n t = omega (arith, n, ap length t.1)

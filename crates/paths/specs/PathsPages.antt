@@ -2,7 +2,6 @@
 use Rattle.std.specs.Prelude.{◌≡◌, ℕ, ◌<◌, ◌≤◌, List, [], ◌∷◌, length, Ok, Err, Result}
 use Rattle.pages.specs.Image.{Image, Has, spent}
 use Rattle.layout.specs.declared.entry.Entry.{Entry}
-use Rattle.layout.specs.declared.list.EntryList.{EntryList}
 use Rattle.layout.specs.Content.{Own, page}
 use Rattle.layout.specs.Listed.{entries}
 use Rattle.layout.specs.declared.visit.Rule.{Rule}
@@ -14,6 +13,7 @@ use Rattle.faults.specs.declared.fault.Fault.{Fault}
 use Rattle.faults.specs.declared.fault.Fault.TheVariants.{Unsound}
 use Rattle.faults.specs.Refusals.{unread}
 use Rattle.faults.specs.Accesses.{contents}
+use Rattle.paths.specs.declared.page_entries.PageEntries.{PageEntries}
 use Rattle.paths.specs.PathsWrites.{Refuses, Wrote, Unwrites}
 
 -- the rule that a page breaks for a reader who expects this level: B, it has another number or level; C, it has no entry
@@ -40,8 +40,8 @@ pub data UnreadPage (m : Image) (p level : ℕ) (f : Fault) (m' : Image) : Type 
   refused : (x : Access) → f ≡ unread x → x.page ≡ p → x.level ≡ level → Refuses m p x.fault → m' ≡ m → UnreadPage m p level f m'
   broken : (r : Rule) → f ≡ Unsound p r → 0 < m.charge → Breaks (contents m) p level r → m' ≡ spent m → UnreadPage m p level f m'
 
-abbrev pub ReadsPage : Image → ℕ → ℕ → Result EntryList Fault → Image → Type 0
-ReadsPage m p level (Ok list) m' = Read m p level (entries list) m'
+abbrev pub ReadsPage : Image → ℕ → ℕ → Result PageEntries Fault → Image → Type 0
+ReadsPage m p level (Ok g) m' = Read m p level (entries g.list) m'
 ReadsPage m p level (Err f) m' = UnreadPage m p level f m'
 
 -- a page written with these entries

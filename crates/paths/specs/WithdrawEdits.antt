@@ -1,5 +1,5 @@
 -- The edits of one page on the path of a withdrawal.
-use Rattle.std.specs.Prelude.{◌≡◌, ℕ, ◌≤◌, List, length, Some, None, Ok, Err, Option, Result, ◌≢◌}
+use Rattle.std.specs.Prelude.{◌≡◌, ℕ, List, Some, None, Ok, Err, Option, Result, ◌≢◌}
 use Rattle.layout.specs.declared.entry.Entry.{Entry}
 use Rattle.layout.specs.Edits.{found}
 use Rattle.tree.specs.Tree.{Held}
@@ -11,7 +11,6 @@ use Rattle.faults.specs.declared.fault.Fault.TheVariants.{NoEvent}
 pub record LessOne (a : ℕ) (es after : List Entry) : Type 0 where
   pub event : found a es ≢ None
   pub less : after ≡ remove a es
-  pub few : length after ≤ 10
 
 -- one event less at an address that has an entry; nothing changes where it has none
 abbrev pub TakesOne : ℕ → List Entry → Result (Unit {0}) Fault → List Entry → Type 0

@@ -2,11 +2,15 @@
 #![tactic(auto)]
 
 pub mod copied;
+mod halves;
 mod left;
 pub mod lodge;
+mod lodge_edits;
 mod page;
+mod page_entries;
 mod place;
 mod plan;
+mod step;
 mod taken;
 pub mod tally;
 pub mod withdraw;

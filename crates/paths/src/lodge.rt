@@ -1,129 +1,100 @@
 // Lodge: one more event at an address, by copying the path to its leaf.
-ghost use Rattle.std.specs.Prelude.{◌≡◌, ℕ, ◌+◌, ◌<◌, ◌≤◌, length, IfOk};
+ghost use Rattle.std.specs.Prelude.{◌≡◌, ℕ, ◌+◌, ◌≤◌, length, IfOk};
 ghost use Rattle.records.specs.Free.{numbers};
-ghost use Rattle.layout.specs.Edits.{found};
 ghost use Rattle.layout.specs.Listed.{entries};
-ghost use Rattle.tree.specs.CopyMoves.{enter};
-ghost use Rattle.tree.specs.CopyPages.{fit_leaf, fit_inner, swap};
-ghost use Rattle.paths.specs.PathsReading.{counted, IsPath};
-ghost use Rattle.paths.specs.LodgePlaces.{halves_of, pages_in, Fits};
+ghost use Rattle.paths.specs.PathsReading.{IsPath};
+ghost use Rattle.paths.specs.LodgePlaces.{pages_in};
 ghost use Rattle.paths.specs.LodgeRules.{Leafed, Lodged};
 ghost use Rattle.paths.specs.LodgeTree.{Roots, LodgedBy};
 ghost use Rattle.paths.specs.LodgeKept.{LodgeIs, LodgeNextLaw, LodgeFreeLaw, LodgeRefusedLaw};
 
 use crate::copied::Copied;
+use crate::halves::Halves;
 use crate::page::{read_page, write_items};
+use crate::page_entries::PageEntries;
 use crate::place::{Placed, place};
 use crate::plan::Plan;
+use crate::step::Step;
 use crate::taken::Taken;
-use crate::tally::{child_in, count_in};
 use faults::fault::Fault;
-use layout::change::{ChildPages, RightHalf};
+use layout::change::ChildPages;
 use layout::entry::Entry;
-use layout::list::EntryList;
 use layout::page_ref::PageRef;
 use pages::store::PageStore;
 use records::free::FreeList;
 
-// In a leaf: one more at an address whose count is below the greatest.
-fn enter(list: &mut EntryList, address: u64)
-    requires short { length (entries list.old) ≤ 10 }
-    requires low { counted (found address (entries list.old)) < 65535 }
-    ensures { entries list.new ≡ enter address (entries list.old) }
-{
-    let _ = list.enter(address);
-}
-
-// A leaf of eleven becomes two.
-fn split_leaf(list: &mut EntryList) -> Option<RightHalf>
-    ensures halves { halves_of (entries list.new) result ≡ fit_leaf (entries list.old) }
-    ensures fits { Fits (halves_of (entries list.new) result) }
-{
-    list.split_leaf()
-}
-
-// In an inner page: the child's new pages in its place; a page of eleven becomes two.
-fn renew_child(list: &mut EntryList, address: u64, pages: ChildPages) -> Option<RightHalf>
-    requires { length (entries list.old) ≤ 10 }
-    ensures halves { halves_of (entries list.new) result ≡ fit_inner (swap (entries list.old) address (pages_in pages)) }
-    ensures fits { Fits (halves_of (entries list.new) result) }
-{
-    let _ = list.put_child(address, pages);
-    list.split_inner()
-}
-
 // At a leaf that was read: asks whether the count is below the greatest (14), then the plan's questions, and writes.
 fn lodge_leaf<S: PageStore>(
     store: &mut S,
-    list: &mut EntryList,
+    page: PageEntries,
     address: u64,
     plan: Plan,
     taken: Taken,
 ) -> Result<Placed, Fault>
-    requires short { length (entries list.old) ≤ 10 }
-    requires few { plan.base + plan.extra ≤ 1000 }
-    requires first { taken.used ≡ 0 }
-    ensures leafs { Leafed (S.meaning store.old) (entries list.old) address (numbers taken.entry.free.now) plan result (S.meaning store.new) }
+    requires { taken.used ≡ 0 }
+    ensures leafs { Leafed (S.meaning store.old) (entries page.list) address (numbers taken.entry.free.now) plan result (S.meaning store.new) }
     ensures path { IfOk result (λ g. g.path ≡ taken.entry.path) }
 {
-    if count_in(list, address) >= 65535 {
+    if page.count(address) >= 65535 {
         return Err(Fault::CountFull);
     }
-    enter(list, address);
+    let list = page.entered(address);
     plan.ask(list.len(), taken.free.len())?;
-    let right = split_leaf(list);
-    place(store, 1, list, right, taken)
+    place(store, 1, Halves::of_leaf(list), taken)
 }
 
 // Lodge at a page of a path.
 fn lodge_at<S: PageStore>(
     store: &mut S,
-    at: PageRef,
+    step: Step,
     address: u64,
     plan: Plan,
     free: &FreeList,
 ) -> Result<Placed, Fault>
-    requires one { 1 ≤ at.level }
-    requires low { at.level ≤ plan.base }
-    requires six { at.level ≤ 6 }
-    requires few { plan.base + plan.extra + at.level ≤ 1000 }
-    ensures lodges { Lodged (S.meaning store.old) at.level at.page address (numbers free.now) plan result (S.meaning store.new) }
-    ensures path { IfOk result (λ g. IsPath (S.meaning store.old) at.level at.page address g.path.items) }
+    requires low { step.at.level ≤ plan.base }
+    requires few { plan.extra + step.at.level ≤ 255 }
+    ensures lodges { Lodged (S.meaning store.old) step.at.level step.at.page address (numbers free.now) plan result (S.meaning store.new) }
+    ensures path { IfOk result (λ g. IsPath (S.meaning store.old) step.at.level step.at.page address g.path.items) }
 {
-    let mut list = read_page(store, at)?;
-    if at.level == 1 {
-        let taken = Taken::none(free).with_old(at.page);
-        return lodge_leaf(store, &mut list, address, plan, taken);
+    let page = read_page(store, step.at)?;
+    if step.at.level == 1 {
+        let taken = Taken::none(free).with_old(step.at.page);
+        return lodge_leaf(store, page, address, plan, taken);
     }
-    let child = child_in(&list, at, address);
-    let deep = plan.below(list.len());
+    let child = Step {
+        at: page.child(step.at, address),
+    };
+    let deep = plan.below(page.list.len());
     let Placed { pages, used, path } = lodge_at(store, child, address, deep, free)?;
-    let taken = Taken { free, used, path }.with_old(at.page);
-    let right = renew_child(&mut list, address, pages);
-    place(store, at.level, &list, right, taken)
+    let taken = Taken { free, used, path }.with_old(step.at.page);
+    place(
+        store,
+        step.at.level,
+        page.renew_child(address, pages),
+        taken,
+    )
 }
 
 // A new root over the two pages of a root that was split.
 fn new_root<S: PageStore>(
     store: &mut S,
-    height: u8,
+    old: Step,
     pages: ChildPages,
     mut taken: Taken,
 ) -> Result<Copied, Fault>
-    requires enough { taken.used + 1 ≤ length (numbers taken.free.now) }
-    requires low { height ≤ 6 }
-    ensures roots { Roots (S.meaning store.old) height (pages_in pages) (numbers taken.entry.free.now) taken.entry.used result (S.meaning store.new) }
+    requires { taken.used + 1 ≤ length (numbers taken.free.now) }
+    ensures roots { Roots (S.meaning store.old) old.at.level (pages_in pages) (numbers taken.entry.free.now) taken.entry.used result (S.meaning store.new) }
     ensures path { IfOk result (λ g. g.path ≡ taken.entry.path) }
 {
     let root = match pages {
         ChildPages::One(page) => PageRef {
             page,
-            level: height,
+            level: old.at.level,
         },
         ChildPages::Two(left, key, right) => {
             let root = PageRef {
                 page: taken.next(),
-                level: height + 1,
+                level: old.at.level + 1,
             };
             let items = [
                 Entry { key, value: left },
@@ -146,11 +117,10 @@ fn new_root<S: PageStore>(
 // The first leaf of an empty tree.
 fn first_leaf<S: PageStore>(
     store: &mut S,
-    old: u16,
     address: u64,
     free: &FreeList,
 ) -> Result<Copied, Fault>
-    ensures { LodgedBy (S.meaning store.old) 0 old address (numbers free.now) result (S.meaning store.new) }
+    ensures { LodgedBy (S.meaning store.old) 0 0 address (numbers free.now) result (S.meaning store.new) }
 {
     if free.len() < 7 {
         return Err(Fault::Room);
@@ -175,27 +145,6 @@ fn first_leaf<S: PageStore>(
     })
 }
 
-fn lodge_tree<S: PageStore>(
-    store: &mut S,
-    root: PageRef,
-    address: u64,
-    free: &FreeList,
-) -> Result<Copied, Fault>
-    requires { root.level ≤ 6 }
-    ensures { LodgedBy (S.meaning store.old) root.level root.page address (numbers free.now) result (S.meaning store.new) }
-{
-    if root.level == 0 {
-        return first_leaf(store, root.page, address, free);
-    }
-    let plan = Plan {
-        base: root.level as usize,
-        extra: 1,
-        height: root.level + 1,
-    };
-    let Placed { pages, used, path } = lodge_at(store, root, address, plan, free)?;
-    new_root(store, root.level, pages, Taken { free, used, path })
-}
-
 // Lodges one event at an address in the tree under this root: writes its new pages to the front of the free pages, leaf
 // first, upward, and leaves the header and the free list as they are. Asked in this order: the path is read (9); the count is below
 // 65,535 (14); the height stays at most 6 (15); k pages are needed and k + 6 are free (16); the pages are written (17).
@@ -210,7 +159,17 @@ pub fn lodge<S: PageStore>(
     if root.level > 6 {
         return Err(Fault::HeightFull);
     }
-    lodge_tree(store, root, address, free)
+    if root.level == 0 {
+        return first_leaf(store, address, free);
+    }
+    let plan = Plan {
+        base: root.level,
+        extra: 1,
+        height: root.level + 1,
+    };
+    let step = Step { at: root };
+    let Placed { pages, used, path } = lodge_at(store, step, address, plan, free)?;
+    new_root(store, step, pages, Taken { free, used, path })
 }
 
 // After a lodge the new tree is kept in the store, and its free list is the old path before the pages that are left; after a

@@ -5,6 +5,7 @@ ghost use Rattle.layout.specs.Content.{Own};
 ghost use Rattle.layout.specs.Listed.{entries};
 ghost use Rattle.paths.specs.PathsPages.{ReadsPage, WritesPage};
 
+use crate::page_entries::PageEntries;
 use faults::access::{fetch, put};
 use faults::fault::Fault;
 use layout::entry::Entry;
@@ -24,7 +25,7 @@ fn is_own(bytes: &[u8; 128], at: PageRef) -> bool
 }
 
 // The entries of a page of this level. Refused where the page is not of this number and level (B) or has no entries (C).
-pub(crate) fn read_page<S: PageStore>(store: &mut S, at: PageRef) -> Result<EntryList, Fault>
+pub(crate) fn read_page<S: PageStore>(store: &mut S, at: PageRef) -> Result<PageEntries, Fault>
     ensures { ReadsPage (S.meaning store.old) at.page at.level result (S.meaning store.new) }
 {
     let mut bytes = [0; 128];
@@ -36,7 +37,7 @@ pub(crate) fn read_page<S: PageStore>(store: &mut S, at: PageRef) -> Result<Entr
     if list.len() == 0 {
         return Err(Fault::Unsound(at.page, Rule::C));
     }
-    Ok(list)
+    Ok(PageEntries { list })
 }
 
 // Writes a page of these entries.
@@ -56,10 +57,9 @@ pub(crate) fn write_items<S: PageStore>(
 pub(crate) fn write_entries<S: PageStore>(
     store: &mut S,
     at: PageRef,
-    list: &EntryList,
+    page: &PageEntries,
 ) -> Result<(), Fault>
-    requires { length (entries list.now) ≤ 10 }
-    ensures { WritesPage (S.meaning store.old) at.level at.page (entries list.now) result (S.meaning store.new) }
+    ensures { WritesPage (S.meaning store.old) at.level at.page (entries page.now.list) result (S.meaning store.new) }
 {
-    write_items(store, at, list.as_slice())
+    write_items(store, at, page.list.as_slice())
 }

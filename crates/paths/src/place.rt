@@ -1,15 +1,14 @@
 // The new pages of a path, written to the front of the free pages.
 ghost use Rattle.std.specs.Prelude.{◌≡◌, ℕ, ◌+◌, ◌≤◌, length, IfOk};
 ghost use Rattle.records.specs.Free.{numbers};
-ghost use Rattle.layout.specs.Listed.{entries};
-ghost use Rattle.paths.specs.LodgePlaces.{halves_of, Fits, Places};
+ghost use Rattle.paths.specs.LodgePlaces.{parts_of, Places};
 
+use crate::halves::Halves;
 use crate::page::write_entries;
 use crate::taken::Taken;
 use arrayvec::ArrayVec;
 use faults::fault::Fault;
-use layout::change::{ChildPages, RightHalf};
-use layout::list::EntryList;
+use layout::change::ChildPages;
 use layout::page_ref::PageRef;
 use pages::store::PageStore;
 
@@ -25,17 +24,16 @@ pub struct Placed {
 pub(crate) fn place<S: PageStore>(
     store: &mut S,
     level: u8,
-    left: &EntryList,
-    right: Option<RightHalf>,
+    halves: Halves,
     mut taken: Taken,
 ) -> Result<Placed, Fault>
-    requires enough { taken.used + 2 ≤ length (numbers taken.free.now) }
-    requires fits { Fits (halves_of (entries left.now) right) }
-    ensures places { Places (S.meaning store.old) level (halves_of (entries left.now) right) (numbers taken.entry.free.now) taken.entry.used result (S.meaning store.new) }
+    requires { taken.used + 2 ≤ length (numbers taken.free.now) }
+    ensures places { Places (S.meaning store.old) level (parts_of halves) (numbers taken.entry.free.now) taken.entry.used result (S.meaning store.new) }
     ensures path { IfOk result (λ g. g.path ≡ taken.entry.path) }
 {
+    let Halves { left, right } = halves;
     let first = taken.next();
-    write_entries(store, PageRef { page: first, level }, left)?;
+    write_entries(store, PageRef { page: first, level }, &left)?;
     match right {
         None => Ok(Placed {
             pages: ChildPages::One(first),
@@ -50,7 +48,7 @@ pub(crate) fn place<S: PageStore>(
                     page: second,
                     level,
                 },
-                &half.entries,
+                &half.page,
             )?;
             Ok(Placed {
                 pages: ChildPages::Two(first, half.key, second),

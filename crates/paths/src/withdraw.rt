@@ -1,19 +1,18 @@
 // Withdraw takes one event back: the path is read on the way down, and what remains of it is written on the way up.
-ghost use Rattle.std.specs.Prelude.{◌≡◌, ℕ, ◌+◌, ◌<◌, ◌≤◌, true, false, length, IfOk};
+ghost use Rattle.std.specs.Prelude.{◌≡◌, ℕ, ◌+◌, ◌<◌, ◌≤◌, Decides, length, IfOk};
 ghost use Rattle.layout.specs.Listed.{entries};
 ghost use Rattle.records.specs.Free.{numbers};
 ghost use Rattle.paths.specs.PathsReading.{IsPath};
 ghost use Rattle.paths.specs.Withdrawals.{PlacesLeft, Withdrawn};
-ghost use Rattle.paths.specs.WithdrawRules.{RoomFor, Withdrew, WithdrawIs, WithdrawNextLaw, WithdrawFreeLaw, WithdrawRefusedLaw};
+ghost use Rattle.paths.specs.WithdrawRules.{RoomFor, WithdrawIs, WithdrawNextLaw, WithdrawFreeLaw, WithdrawRefusedLaw};
 
 use crate::copied::Copied;
 use crate::left::Left;
 use crate::page::{read_page, write_entries};
+use crate::page_entries::PageEntries;
+use crate::step::Step;
 use crate::taken::Taken;
-use crate::tally::child_in;
-use crate::withdraw_edits::{restore_child, take_one};
 use faults::fault::Fault;
-use layout::list::EntryList;
 use layout::page_ref::PageRef;
 use pages::store::PageStore;
 use records::free::FreeList;
@@ -22,25 +21,27 @@ use records::free::FreeList;
 fn place_left<S: PageStore>(
     store: &mut S,
     level: u8,
-    list: &EntryList,
+    page: &PageEntries,
     mut taken: Taken,
 ) -> Result<Left, Fault>
-    requires few { length (entries list.now) ≤ 10 }
-    requires room { taken.used < length (numbers taken.free.now) }
-    ensures places { PlacesLeft (S.meaning store.old) level (entries list.now) (numbers taken.entry.free.now) taken.entry.used result (S.meaning store.new) }
+    requires { taken.used < length (numbers taken.free.now) }
+    ensures places { PlacesLeft (S.meaning store.old) level (entries page.now.list) (numbers taken.entry.free.now) taken.entry.used result (S.meaning store.new) }
     ensures path { IfOk result (λ g. g.path ≡ taken.entry.path) }
 {
-    if list.len() == 0 {
+    if page.list.len() == 0 {
         return Ok(Left {
             page: None,
             used: taken.used,
             path: taken.path,
         });
     }
-    let page = taken.next();
-    write_entries(store, PageRef { page, level }, list)?;
+    let at = PageRef {
+        page: taken.next(),
+        level,
+    };
+    write_entries(store, at, page)?;
     Ok(Left {
-        page: Some(page),
+        page: Some(at.page),
         used: taken.used,
         path: taken.path,
     })
@@ -49,53 +50,35 @@ fn place_left<S: PageStore>(
 // Withdraw at a page of a path.
 fn withdraw_at<S: PageStore>(
     store: &mut S,
-    at: PageRef,
+    step: Step,
     address: u64,
     free: &FreeList,
 ) -> Result<Left, Fault>
-    requires one { 1 ≤ at.level }
-    requires six { at.level ≤ 6 }
-    requires room { at.level ≤ length (numbers free.now) }
-    ensures withdraws { Withdrawn (S.meaning store.old) at.level at.page address (numbers free.now) result (S.meaning store.new) }
-    ensures path { IfOk result (λ g. IsPath (S.meaning store.old) at.level at.page address g.path.items) }
+    requires { step.at.level ≤ length (numbers free.now) }
+    ensures withdraws { Withdrawn (S.meaning store.old) step.at.level step.at.page address (numbers free.now) result (S.meaning store.new) }
+    ensures path { IfOk result (λ g. IsPath (S.meaning store.old) step.at.level step.at.page address g.path.items) }
 {
-    let mut list = read_page(store, at)?;
-    if at.level == 1 {
-        take_one(&mut list, address)?;
-        let taken = Taken::none(free).with_old(at.page);
-        return place_left(store, 1, &list, taken);
+    let mut page = read_page(store, step.at)?;
+    if step.at.level == 1 {
+        page.take_one(address)?;
+        let taken = Taken::none(free).with_old(step.at.page);
+        return place_left(store, 1, &page, taken);
     }
-    let child = child_in(&list, at, address);
-    let Left { page, used, path } = withdraw_at(store, child, address, free)?;
-    let taken = Taken { free, used, path }.with_old(at.page);
-    restore_child(&mut list, address, page);
-    place_left(store, at.level, &list, taken)
+    let child = Step {
+        at: page.child(step.at, address),
+    };
+    let below = withdraw_at(store, child, address, free)?;
+    page.restore_child(address, below.page);
+    let Left { used, path, .. } = below;
+    let taken = Taken { free, used, path }.with_old(step.at.page);
+    place_left(store, step.at.level, &page, taken)
 }
 
 // Whether a path of this height can be copied: it has at most six pages, and as many are free.
 fn has_room(height: u8, free: &FreeList) -> bool
-    ensures yes { result ≡ true → RoomFor height (numbers free.now) }
-    ensures no { result ≡ false → RoomFor height (numbers free.now) → ⊥ }
+    ensures { Decides result (RoomFor height (numbers free.now)) }
 {
-    height <= 6 && height as usize <= free.len() as usize
-}
-
-fn withdraw_path<S: PageStore>(
-    store: &mut S,
-    root: PageRef,
-    address: u64,
-    free: &FreeList,
-) -> Result<Copied, Fault>
-    ensures { Withdrew (S.meaning store.old) root.level root.page address (numbers free.now) result (S.meaning store.new) }
-{
-    if root.level == 0 {
-        return Err(Fault::NoEvent);
-    }
-    if !has_room(root.level, free) {
-        return Err(Fault::Room);
-    }
-    let left = withdraw_at(store, root, address, free)?;
-    Ok(left.copied(root.level))
+    height <= 6 && height as u16 <= free.len()
 }
 
 // Takes one event back at an address from the tree under this root. Asked in this order, before any write: does the charge
@@ -110,7 +93,14 @@ pub fn withdraw<S: PageStore>(
 ) -> Result<Copied, Fault>
     ensures { WithdrawIs (S.meaning store.old) root.page root.level address (numbers free.now) result (S.meaning store.new) }
 {
-    withdraw_path(store, root, address, free)
+    if root.level == 0 {
+        return Err(Fault::NoEvent);
+    }
+    if !has_room(root.level, free) {
+        return Err(Fault::Room);
+    }
+    let left = withdraw_at(store, Step { at: root }, address, free)?;
+    Ok(left.copied(root.level))
 }
 
 // After a withdrawal the new tree is kept in the store, and its free list is the old path before the pages that are left; after a

@@ -1,59 +1,58 @@
-use Rattle.std.proofs.Common.{ℕ, ◌≤◌, ap, ◌∙◌, arith}
+use Rattle.std.proofs.Common.{◌≤◌, ◌∙◌, arith}
 use Rattle.std.proofs.lemmas.Result.{err_from_is_err_and}
 use Rattle.paths.specs.declared.place.Placed.{Placed}
-use Rattle.paths.specs.declared.plan.Plan.{Plan}
-use Rattle.paths.specs.LodgeRules.{plan_below}
 use Rattle.paths.proofs.PathsReading.{goes}
 use Rattle.paths.proofs.PathsBack.{leaf_path, inner_path, same_path, path_length}
-use Rattle.paths.proofs.LodgeClimbing.{lodge_unread, lodge_leafed, lodge_fails, lodge_climbs, lodge_room}
+use Rattle.paths.proofs.LodgeClimbing.{lodge_unread, lodge_leafed, lodge_fails, lodge_climbs, lodge_room, plan_at, same_base}
 use Rattle.paths.proofs.lodge.+lodge_at.Goals as goal
 
-pub returns-in_err-list-clause-lodges : goal.returns-in_err-list-clause-lodges
-returns-in_err-list-clause-lodges g t c =
+pub returns-in_err-page-clause-lodges : goal.returns-in_err-page-clause-lodges
+returns-in_err-page-clause-lodges g t c =
     let p = err_from_is_err_and c.from_residual.result c.from_residual.ensures.1 in
-    rw (p.1, p.2) (lodge_unread _ _ _ _ _ _ c.args.plan _ c.requires.one c.in_err-list.ensures)
+    rw (p.1, p.2) (lodge_unread _ _ _ _ _ _ c.args.plan _ c.args.step.one c.in_err-page.ensures)
 
-pub returns-then-at-eq1-clause-lodges : goal.returns-then-at-eq1-clause-lodges
-returns-then-at-eq1-clause-lodges g t c =
+pub returns-then-step-eq1-clause-lodges : goal.returns-then-step-eq1-clause-lodges
+returns-then-step-eq1-clause-lodges g t c =
     let f = c.with_old-taken.ensures.free ∙ c.none.ensures.free in
-    lodge_leafed _ _ _ _ _ _ _ _ _ c.lodge_leaf.result c.if-at-eq1.true c.in_ok-list.ensures (rw f at c.lodge_leaf.ensures.leafs)
+    let mean = g.S.PageStore.meaning in
+    lodge_leafed (mean c.args.store.now) (mean c.read_page.new.store) (mean c.lodge_leaf.new.store) _ _ _ _ _ _ c.lodge_leaf.result c.if-step-eq1.true c.in_ok-page.ensures (rw f at c.lodge_leaf.ensures.leafs)
 
-pub returns-then-at-eq1-clause-path : goal.returns-then-at-eq1-clause-path
-returns-then-at-eq1-clause-path g t c =
-    let path : _ = leaf_path (g.S.PageStore.meaning c.args.store.now) _ c.args.at.page c.args.address _ _ c.if-at-eq1.true c.none.ensures.path c.with_old-taken.ensures.path in
+pub returns-then-step-eq1-clause-path : goal.returns-then-step-eq1-clause-path
+returns-then-step-eq1-clause-path g t c =
+    let path : _ = leaf_path (g.S.PageStore.meaning c.args.store.now) _ c.args.step.at.page c.args.address _ _ c.if-step-eq1.true c.none.ensures.path c.with_old-taken.ensures.path in
     same_path (λ (x : Placed). x.path) (g.S.PageStore.meaning c.args.store.now) _ _ _ _ c.lodge_leaf.result path c.lodge_leaf.ensures.path
 
 pub returns-in_err-pages-clause-lodges : goal.returns-in_err-pages-clause-lodges
 returns-in_err-pages-clause-lodges g t c =
     let p = err_from_is_err_and c.from_residual-in_err-pages.result c.from_residual-in_err-pages.ensures.1 in
-    let two : 2 ≤ c.args.at.level = omega arith in
-    let w = goes _ _ _ _ _ _ _ _ two c.in_ok-list.ensures c.child_in-child.ensures.page c.child_in-child.ensures.level in
-    rw (p.1, p.2) (lodge_fails _ _ _ _ _ _ _ _ _ _ _ _ _ w (c.below-deep.ensures ∙ ap (λ (n : ℕ). plan_below n c.args.plan) c.len.ensures.is) c.in_err-pages.ensures.lodges)
+    let two : 2 ≤ c.args.step.at.level = omega arith in
+    let w = goes _ _ _ _ _ _ _ _ two c.in_ok-page.ensures c.child.ensures.page c.child.ensures.level in
+    rw (p.1, p.2) (lodge_fails _ _ _ _ _ _ _ _ _ _ _ _ _ w (plan_at _ _ _ _ c.below-deep.ensures c.len.ensures.is) c.in_err-pages.ensures.lodges)
 
 pub with_old-taken-requires-2 : goal.with_old-taken-requires-2
 with_old-taken-requires-2 g t c =
-    let n = path_length (g.S.PageStore.meaning c.read_page.new.store) c.child_in-child.result.level c.child_in-child.result.page c.args.address c.in_ok-pages.field-0.path.items c.in_ok-pages.ensures.path in
-    omega (arith, n, c.child_in-child.ensures.level, c.requires.six, c.requires.one)
+    let n = path_length (g.S.PageStore.meaning c.read_page.new.store) c.child.result.level c.child.result.page c.args.address c.in_ok-pages.field-0.path.items c.in_ok-pages.ensures.path in
+    omega (arith, n, c.child.ensures.level, c.args.step.six, c.args.step.one)
 
-pub place-requires-clause-enough : goal.place-requires-clause-enough
-place-requires-clause-enough g t c =
+pub place-requires : goal.place-requires
+place-requires g t c =
     let mean = g.S.PageStore.meaning in
-    let n = lodge_room (mean c.read_page.new.store) _ c.child_in-child.result.level _ _ _ _ c.in_ok-pages.field-0
-    (omega (arith, c.requires.low, c.child_in-child.ensures.level, ap (λ (z : Plan). z.base) c.below-deep.ensures)) c.in_ok-pages.ensures.lodges in
+    let n = lodge_room (mean c.read_page.new.store) _ c.child.result.level _ _ _ _ c.in_ok-pages.field-0
+    (omega (arith, c.requires.low, c.child.ensures.level, same_base _ c.args.plan _ c.below-deep.ensures)) c.in_ok-pages.ensures.lodges in
     rw (c.with_old-taken-2.ensures.used, c.with_old-taken-2.ensures.free) n
 
 pub returns-clause-lodges : goal.returns-clause-lodges
 returns-clause-lodges g t c =
-    let two : 2 ≤ c.args.at.level = omega arith in
-    let w = goes _ _ _ _ _ _ _ _ two c.in_ok-list.ensures c.child_in-child.ensures.page c.child_in-child.ensures.level in
+    let two : 2 ≤ c.args.step.at.level = omega arith in
+    let w = goes _ _ _ _ _ _ _ _ two c.in_ok-page.ensures c.child.ensures.page c.child.ensures.level in
     lodge_climbs _ _ _ _ _ _ _ _ _ _ _ _ _ c.in_ok-pages.field-0 _ c.place.result w
-    (c.below-deep.ensures ∙ ap (λ (n : ℕ). plan_below n c.args.plan) c.len.ensures.is) c.in_ok-pages.ensures.lodges
-    c.renew_child-right.ensures.halves (rw (c.with_old-taken-2.ensures.used, c.with_old-taken-2.ensures.free) at c.place.ensures.places)
+    (plan_at _ _ _ _ c.below-deep.ensures c.len.ensures.is) c.in_ok-pages.ensures.lodges
+    c.renew_child.ensures (rw (c.with_old-taken-2.ensures.used, c.with_old-taken-2.ensures.free) at c.place.ensures.places)
 
 pub returns-clause-path : goal.returns-clause-path
 returns-clause-path g t c =
     let mean = g.S.PageStore.meaning in
-    let two : 2 ≤ c.args.at.level = omega arith in
-    let w = goes _ _ _ _ _ _ _ _ two c.in_ok-list.ensures c.child_in-child.ensures.page c.child_in-child.ensures.level in
+    let two : 2 ≤ c.args.step.at.level = omega arith in
+    let w = goes _ _ _ _ _ _ _ _ two c.in_ok-page.ensures c.child.ensures.page c.child.ensures.level in
     let path : _ = inner_path _ _ (mean c.args.store.now) (mean c.read_page.new.store) _ _ _ _ c.in_ok-pages.field-0.path.items _ w c.in_ok-pages.ensures.path c.with_old-taken-2.ensures.path in
     same_path (λ (x : Placed). x.path) (mean c.args.store.now) _ _ _ _ c.place.result path c.place.ensures.path
