@@ -35,16 +35,7 @@ impl<S: PageStore, O: PointOrder> Index<S, O> {
         let last = last_usable(self.store.size());
         let top = top_of(&self.order);
         let mut marks = [false; 1026];
-        match scan(
-            &mut self.store,
-            last,
-            header.height,
-            header.root,
-            header.total,
-            top,
-            work,
-            &mut marks,
-        ) {
+        match scan(&mut self.store, last, header, top, work, &mut marks) {
             Ok(()) => {}
             Err(fault) => return Err(fault),
         }
