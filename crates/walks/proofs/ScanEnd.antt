@@ -9,7 +9,7 @@ use Rattle.tree.specs.Scan.{Outcome, accepted, refused, scan, start, room, concl
 use Rattle.tree.proofs.ScanTests.{decides_leb}
 use Rattle.faults.specs.Accesses.{contents}
 use Rattle.faults.specs.declared.fault.Fault.{Fault}
-use Rattle.faults.specs.declared.fault.Fault.TheVariants.{Shut, Outside, Work, Absent, Unread, NoHeader, OtherOrder, Unsound, NoEvent, CountFull, HeightFull, Room, Unwritten}
+use Rattle.faults.specs.declared.fault.Fault.TheVariants.{Unread, Unsound}
 use Rattle.walks.specs.declared.scanning.Seen.{Seen}
 use Rattle.walks.specs.Scans.{last_page, Refuses, ScansPages, Scans}
 use Rattle.tree.proofs.SearchTests.{decided_false}
@@ -37,17 +37,7 @@ module _ (m : Image) (limit : ℕ) (header : Header) (top last work : ℕ) (e : 
   unfolding concluded
   scans_refused (Unsound p r) m' marks h = (ready, low, (h.0, whole_is ∙ ap (concluded last header.total) h.1, h.2))
   scans_refused (Unread a) m' marks h = (ready, low, (h.0, h.1, whole_is ∙ ap (concluded last header.total) h.2, h.3, h.4))
-  scans_refused (Absent a) m' marks h = absurd h
-  scans_refused Shut m' marks h = absurd h
-  scans_refused Outside m' marks h = absurd h
-  scans_refused Work m' marks h = absurd h
-  scans_refused NoHeader m' marks h = absurd h
-  scans_refused OtherOrder m' marks h = absurd h
-  scans_refused NoEvent m' marks h = absurd h
-  scans_refused CountFull m' marks h = absurd h
-  scans_refused HeightFull m' marks h = absurd h
-  scans_refused Room m' marks h = absurd h
-  scans_refused (Unwritten a) m' marks h = absurd h
+  scans_refused _ m' marks h = absurd h
 
   module _ (s : Seen) (m' : Image) (marks : List Bool) (h : ScansPages all_pages m (Ok s) m' marks) where
     abbrev sums : Bool

@@ -19,7 +19,7 @@ use Rattle.tree.proofs.ScanMarks.{InRange, few_marks}
 use Rattle.tree.proofs.ScanDepth.{StackFits, fits_pass}
 use Rattle.faults.specs.Accesses.{contents}
 use Rattle.faults.specs.declared.fault.Fault.{Fault}
-use Rattle.faults.specs.declared.fault.Fault.TheVariants.{Shut, Outside, Work, Absent, Unread, NoHeader, OtherOrder, Unsound, NoEvent, CountFull, HeightFull, Room, Unwritten}
+use Rattle.faults.specs.declared.fault.Fault.TheVariants.{Absent, Unread, Unsound}
 use Rattle.walks.specs.Pending.{to_come, SameSize}
 use Rattle.walks.specs.Visits.{rule_of_lem, Visits}
 use Rattle.walks.specs.Scans.{Marked, Refuses, ScansPages}
@@ -217,16 +217,7 @@ module _ (m₀ m : Image) {limit : ℕ} {o : Outcome} {marks : List Bool} {stack
       )
       visit_refused (Unread a) m' stack' h = (v.page, v.level, unread w n low high new h.0, h.2, h.1 ∙ as_granted m₀ m 0 e h.0)
       visit_refused (Absent a) m' stack' h = let l = ap length e in absurd (elim h.0 [ inl z ↦ omega arith | inr z ↦ omega arith ])
-      visit_refused Shut m' stack' h = absurd h
-      visit_refused Outside m' stack' h = absurd h
-      visit_refused Work m' stack' h = absurd h
-      visit_refused NoHeader m' stack' h = absurd h
-      visit_refused OtherOrder m' stack' h = absurd h
-      visit_refused NoEvent m' stack' h = absurd h
-      visit_refused CountFull m' stack' h = absurd h
-      visit_refused HeightFull m' stack' h = absurd h
-      visit_refused Room m' stack' h = absurd h
-      visit_refused (Unwritten a) m' stack' h = absurd h
+      visit_refused _ m' stack' h = absurd h
 
       pub visit_passed : (k : ℕ) (m' : Image) (stack' : List Visit) (seen' : Seen) → seen' ≡ added w k → limit ≤ 1024 → Visits m v st (Ok k) m' stack' →
           Scanning (contents m₀) limit o m'.charge (set marks v.page true) stack' seen' (v.page ∷ ms) × Same m₀ m'
