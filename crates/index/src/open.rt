@@ -33,16 +33,7 @@ impl<S: PageStore, O: PointOrder> Index<S, O> {
         let last = last_usable(self.store.size());
         let top = top_of(&self.order);
         let mut marks = [false; 1026];
-        scan(
-            &mut self.store,
-            last,
-            header.height,
-            header.root,
-            header.total,
-            top,
-            work,
-            &mut marks,
-        )?;
+        scan(&mut self.store, last, header, top, work, &mut marks)?;
         self.tree = Some(OpenTree {
             root: PageRef {
                 page: header.root,

@@ -1,6 +1,7 @@
 -- The counts of a leaf and the children's visits of an inner page, by place.
-use Rattle.std.proofs.Common.{◌≡◌, ℕ, zero, suc, ◌+◌, ◌-◌, ◌<◌, ◌≤◌, List, [], ◌∷◌, ◌++◌, reverse, length, get_or, take, drop, Ok, Err, Result, sym, refl, ap, ◌∙◌, arith}
+use Rattle.std.proofs.Common.{◌≡◌, ℕ, zero, suc, ◌+◌, ◌-◌, ◌<◌, List, [], ◌∷◌, ◌++◌, reverse, map, sum, sum_by, length, get_or, take, drop, Ok, Err, Result, sym, refl, ap, ◌∙◌, arith}
 use Rattle.std.proofs.lemmas.List.{drop_more, drop_all, reverse-append, length-set}
+use Rattle.std.proofs.lemmas.List.Sums.{sum_by-cons, sum-map}
 use Rattle.layout.specs.declared.entry.Entry.{Entry}
 use Rattle.layout.specs.Content.{InnerKeys}
 use Rattle.layout.specs.Listed.{blank}
@@ -8,14 +9,16 @@ use Rattle.layout.specs.declared.visit.Visit.{Visit}
 use Rattle.tree.specs.Tree.{counts}
 use Rattle.tree.specs.Scan.{visit, child_visits}
 use Rattle.records.specs.Tray.{Lays}
-use Rattle.walks.specs.Pending.{to_come}
+use Rattle.records.specs.declared.tray.Tray.{Tray}
+use Rattle.walks.specs.Pending.{to_come, SameSize}
 
--- the sum, one count further and at the end
-pub counted_more : (es : List Entry) (i s v : ℕ) → i < length es → counts es ≡ s + counts (drop i es) → v ≡ (get_or es i blank).value → counts es ≡ s + v + counts (drop (i + 1) es)
-counted_more es i s v h e q = omega (arith, ap counts (drop_more es i blank h))
+-- the sum of a leaf's counts
+counts_by : (es : List Entry) → sum_by (λ e. e.value) es ≡ counts es
+counts_by [] = refl
+counts_by (e ∷ es) = sum_by-cons (λ x. x.value) e es ∙ ap (λ n. e.value + n) (counts_by es)
 
-pub counted_all : (es : List Entry) (i s : ℕ) → length es ≤ i → counts es ≡ s + counts (drop i es) → s ≡ counts es
-counted_all es i s h e = omega (arith, ap counts (drop_all i es h))
+pub counts_sum : (es : List Entry) → sum (map (λ e. e.value) es) ≡ counts es
+counts_sum es = sum-map (λ e. e.value) es ∙ counts_by es
 
 -- every key but the last is below the region's end
 pub key_below : (es : List Entry) (lo hi k : ℕ) → InnerKeys lo hi es → suc k < length es → (get_or es k blank).key < hi
@@ -49,17 +52,16 @@ pub put_next : (xs ys : List Visit) (x : Visit) → ys ≡ xs ++ x ∷ [] → re
 put_next xs ys x e = ap reverse e ∙ reverse-append xs (x ∷ [])
 
 -- the visits from j on are in the tray; and then the one before them
-pub put_more : (memory memory' : List Visit) (used used' j : ℕ) (vs base : List Visit) (x : Visit) (r : Result (Unit {0}) Visit) → 0 < j → j ≤ length vs → used < length memory →
-    x ≡ get_or vs (j - 1) (visit 0 0 0 0) → Lays memory used x r memory' used' → to_come memory used ≡ drop j vs ++ base →
-    (used' ≡ used + 1) × (length memory' ≡ length memory) × (to_come memory' used' ≡ drop (j - 1) vs ++ base)
-put_more memory memory' used used' j vs base x (Ok u) p h f q l e =
-    let one : j ≡ j - 1 + 1 = omega arith in
-    let d : drop (j - 1) vs ≡ get_or vs (j - 1) (visit 0 0 0 0) ∷ drop (j - 1 + 1) vs = drop_more vs (j - 1) (visit 0 0 0 0) (omega arith) in (
-      l.1,
-      ap length l.2 ∙ length-set memory used x,
-      put_next (take used memory) (take used' memory') x l.3 ∙ ap (λ ys. x ∷ ys) e ∙ (λ i. q i ∷ drop (one i) vs ++ base) ∙ ap (λ ys. ys ++ base) (sym d),
-    )
-put_more memory memory' used used' j vs base x (Err y) p h f q l e = absurd (omega (arith, l.0))
+pub put_more : (t t' : Tray Visit) (j : ℕ) (vs base : List Visit) (x : Visit) (r : Result (Unit {0}) Visit) → j < length vs → t.used < length t.memory.now →
+    x ≡ get_or vs j (visit 0 0 0 0) → Lays t.memory.now t.used x r t'.memory.now t'.used → to_come t ≡ drop (j + 1) vs ++ base →
+    (t'.used ≡ t.used + 1) × SameSize t t' × (to_come t' ≡ drop j vs ++ base)
+put_more t t' j vs base x (Ok u) h f q l e = (
+  l.1,
+  ap length l.2 ∙ length-set t.memory.now t.used x,
+  put_next (take t.used t.memory.now) (take t'.used t'.memory.now) x l.3 ∙ ap (λ ys. x ∷ ys) e ∙ (λ i. q i ∷ drop (j + 1) vs ++ base)
+      ∙ ap (λ ys. ys ++ base) (sym (drop_more vs j (visit 0 0 0 0) h)),
+)
+put_more t t' j vs base x (Err y) h f q l e = absurd (omega (arith, l.0))
 
 -- the tray at the loop's start
 pub put_none : (n : ℕ) (vs base : List Visit) → length vs ≡ n → base ≡ drop n vs ++ base

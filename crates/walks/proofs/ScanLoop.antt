@@ -4,10 +4,11 @@ use Rattle.std.specs.List.{AllByRecursion}
 use Rattle.std.proofs.lemmas.List.{get_or-set_same, get_or-set_other, length-set, length-replicate, length-reverse, length-take-le}
 use Rattle.std.proofs.lemmas.Bool.{cases_eq, eq-eqb, ne_eqb, cond-true, cond-false, both_ways, not-false}
 use Rattle.records.specs.Tray.{Lays, Lifts}
+use Rattle.records.specs.declared.tray.Tray.{Tray}
 use Rattle.pages.specs.Image.{Image, spent, granted}
-use Rattle.layout.specs.declared.visit.Rule.TheVariants.{A, B, C, D, E, F}
 use Rattle.layout.specs.declared.visit.Visit.{Visit}
 use Rattle.layout.specs.declared.visit.Rule.{Rule}
+use Rattle.layout.specs.declared.visit.Rule.TheVariants.{A, B, C, D, E, F}
 use Rattle.tree.specs.Tree.{Contents, Absent as NotIn, Apart}
 use Rattle.tree.specs.Scan.{visit, Outcome, accepted, refused, uncharged, Turn, breaks, onward, absent, admits, charged, judged, turn, left_at, follow, scan, start}
 use Rattle.tree.proofs.ScanTests.{absent_decides, admits_decides}
@@ -16,10 +17,11 @@ use Rattle.tree.proofs.ScanMarks.{InRange, few_marks}
 use Rattle.tree.proofs.ScanDepth.{StackFits, fits_pass}
 use Rattle.faults.specs.Accesses.{contents}
 use Rattle.faults.specs.declared.fault.Fault.{Fault}
-use Rattle.faults.specs.declared.fault.Fault.TheVariants.{Shut, Outside, Work, Absent, Unread, NoHeader, OtherOrder, Unsound, NoEvent, CountFull, HeightFull, Room, Unwritten}
-use Rattle.walks.specs.Pending.{to_come}
+use Rattle.faults.specs.declared.fault.Fault.TheVariants.{Absent, Unread, Unsound}
+use Rattle.walks.specs.Pending.{to_come, SameSize}
 use Rattle.walks.specs.Visits.{OfPage, Visits}
-use Rattle.walks.specs.Scans.{Marked, Accepts, Refuses}
+use Rattle.walks.specs.Scans.{Marked, Refuses, ScansPages}
+use Rattle.walks.specs.declared.scanning.Seen.{Seen}
 use Rattle.walks.proofs.ChildVisits.{put_next}
 use Rattle.faults.proofs.Same.{same_contents}
 use Rattle.tree.proofs.SearchTests.{decided_false}
@@ -27,40 +29,40 @@ use Rattle.tree.proofs.SearchTests.{decided_false}
 -- 1. the tray
 
 -- how many visits are to come
-pub length_to_come : (memory : List Visit) (used : ℕ) → used ≤ length memory → length (to_come memory used) ≡ used
-length_to_come memory used h = length-reverse (take used memory) ∙ length-take-le used memory h
+pub length_to_come : (t : Tray Visit) → t.used ≤ length t.memory.now → length (to_come t) ≡ t.used
+length_to_come t h = length-reverse (take t.used t.memory.now) ∙ length-take-le t.used t.memory.now h
 
-pub popped : (memory memory' : List Visit) (used used' : ℕ) (v : Visit) → Lifts memory used (Some v) memory' used' → to_come memory used ≡ v ∷ to_come memory' used'
-popped memory memory' used used' v l = put_next (take used' memory') (take used memory) v l.2
+pub popped : (t t' : Tray Visit) (v : Visit) → Lifts t.memory.now t.used (Some v) t'.memory.now t'.used → to_come t ≡ v ∷ to_come t'
+popped t t' v l = put_next (take t'.used t'.memory.now) (take t.used t.memory.now) v l.2
 
-pub popped_none : (memory memory' : List Visit) (used used' : ℕ) → Lifts memory used None memory' used' → to_come memory used ≡ []
-popped_none memory memory' used used' l = ap (λ n. reverse (take n memory)) l.0
+pub popped_none : (t t' : Tray Visit) → Lifts t.memory.now t.used None t'.memory.now t'.used → to_come t ≡ []
+popped_none t t' l = ap (λ n. reverse (take n t.memory.now)) l.0
 
 -- the root's visit
-pub first_put : (memory memory' : List Visit) (used used' height root top : ℕ) (r : Result (Unit {0}) Visit) → used ≡ 0 → 64 ≤ length memory → 0 < height →
-    Lays memory used (visit root height 0 top) r memory' used' → (to_come memory' used' ≡ start height root top) × (length memory' ≡ length memory)
-first_put memory memory' used used' zero root top r e h p l = absurd (omega arith)
-first_put memory memory' used used' (suc n) root top (Ok u) e h p l = (
-  put_next (take used memory) (take used' memory') (visit root (suc n) 0 top) l.3 ∙ ap (λ k. visit root (suc n) 0 top ∷ reverse (take k memory)) e,
-  ap length l.2 ∙ length-set memory used (visit root (suc n) 0 top),
+pub first_put : (t t' : Tray Visit) (height root top : ℕ) (r : Result (Unit {0}) Visit) → t.used ≡ 0 → 64 ≤ length t.memory.now → 0 < height →
+    Lays t.memory.now t.used (visit root height 0 top) r t'.memory.now t'.used → (to_come t' ≡ start height root top) × SameSize t t'
+first_put t t' zero root top r e h p l = absurd (omega arith)
+first_put t t' (suc n) root top (Ok u) e h p l = (
+  put_next (take t.used t.memory.now) (take t'.used t'.memory.now) (visit root (suc n) 0 top) l.3 ∙ ap (λ k. visit root (suc n) 0 top ∷ reverse (take k t.memory.now)) e,
+  ap length l.2 ∙ length-set t.memory.now t.used (visit root (suc n) 0 top),
 )
-first_put memory memory' used used' (suc n) root top (Err y) e h p l = absurd (omega (arith, l.0))
+first_put t t' (suc n) root top (Err y) e h p l = absurd (omega (arith, l.0))
 
-pub none_put : (memory : List Visit) (used height root top : ℕ) → used ≡ 0 → height ≡ 0 → to_come memory used ≡ start height root top
-none_put memory used height root top e z = ap (λ n. reverse (take n memory)) e ∙ ap (λ h. start h root top) (sym z)
+pub none_put : (t : Tray Visit) (height root top : ℕ) → t.used ≡ 0 → height ≡ 0 → to_come t ≡ start height root top
+none_put t height root top e z = ap (λ n. reverse (take n t.memory.now)) e ∙ ap (λ h. start h root top) (sym z)
 
 -- 2. the state between two turns
 
 -- the loop's state is that of a scan that comes to o; ms are the pages marked, the newest first
-pub record Scanning (m : Contents) (limit : ℕ) (o : Outcome) (charge : ℕ) (marks : List Bool) (stack : List Visit) (sum pages : ℕ) (ms : List ℕ) : Type 0 where
-  pub same : scan (suc limit - length ms) m limit charge ms stack sum ≡ o
+pub record Scanning (m : Contents) (limit : ℕ) (o : Outcome) (charge : ℕ) (marks : List Bool) (stack : List Visit) (passed : Seen) (ms : List ℕ) : Type 0 where
+  pub same : scan (suc limit - length ms) m limit charge ms stack passed.sum ≡ o
   pub once : Apart ms
   pub range : AllByRecursion (InRange limit) ms
   pub marked : Marked marks ms
   pub long : length marks ≡ 1026
   pub fits : StackFits 55 stack
-  pub count : pages ≡ length ms
-  pub small : sum ≤ 655350 * pages
+  pub count : passed.pages ≡ length ms
+  pub small : passed.sum ≤ 655350 * passed.pages
 
 unmarked : (n p : ℕ) → get_or (replicate n false) p false ≡ false
 unmarked zero p = refl
@@ -71,35 +73,39 @@ fits_first : (height root top : ℕ) → height ≤ 6 → StackFits 55 (start he
 fits_first zero root top h = tt
 fits_first (suc n) root top h = (omega arith, omega arith, tt)
 
-pub begins : (m : Contents) (limit charge height root top : ℕ) (stack : List Visit) → height ≤ 6 → stack ≡ start height root top →
-    Scanning m limit (scan (suc limit) m limit charge [] (start height root top) 0) charge (replicate 1026 false) stack 0 0 []
-begins m limit charge height root top stack h e =
+pub begins : (m : Contents) (limit charge height root top : ℕ) (stack : List Visit) (seen : Seen) → height ≤ 6 → stack ≡ start height root top → seen.pages ≡ 0 → seen.sum ≡ 0 →
+    Scanning m limit (scan (suc limit) m limit charge [] (start height root top) 0) charge (replicate 1026 false) stack seen []
+begins m limit charge height root top stack seen h e none nil =
     let f : suc limit - 0 ≡ suc limit = omega arith in
     record {
-      same = λ i. scan (f i) m limit charge [] (e i) 0;
+      same = λ i. scan (f i) m limit charge [] (e i) (nil i);
       once = tt;
       range = tt;
       marked = λ p. unmarked 1026 p;
       long = length-replicate 1026 false;
       fits = subst (λ st. StackFits 55 st) (sym e) (fits_first height root top h);
-      count = refl;
+      count = none;
       small = omega arith;
     }
 
-module _ {m : Contents} {limit : ℕ} {o : Outcome} {charge : ℕ} {marks : List Bool} {stack : List Visit} {sum pages : ℕ} {ms : List ℕ}
-    (w : Scanning m limit o charge marks stack sum pages ms) where
+module _ {m : Contents} {limit : ℕ} {o : Outcome} {charge : ℕ} {marks : List Bool} {stack : List Visit} {seen : Seen} {ms : List ℕ}
+    (w : Scanning m limit o charge marks stack seen ms) where
+  -- what is seen after one more page
+  abbrev pub added : ℕ → Seen
+  added n = record { pages = seen.pages + 1; sum = seen.sum + n }
+
   few : length ms ≤ limit
   few = few_marks limit ms w.once w.range
 
-  pub few_pages : pages ≤ limit
+  pub few_pages : seen.pages ≤ limit
   few_pages = omega (arith, few, w.count)
 
   -- nothing is left to visit
-  pub finished : stack ≡ [] → o ≡ accepted ms sum charge
+  pub finished : stack ≡ [] → o ≡ accepted ms seen.sum charge
   unfolding scan
   finished e =
       let f : suc limit - length ms ≡ suc (limit - length ms) = omega (arith, few) in
-      sym w.same ∙ (λ i. scan (f i) m limit charge ms (e i) sum)
+      sym w.same ∙ (λ i. scan (f i) m limit charge ms (e i) seen.sum)
 
   -- a visit is next
   module _ {v : Visit} {st : List Visit} (e : stack ≡ v ∷ st) where
@@ -114,13 +120,13 @@ module _ {m : Contents} {limit : ℕ} {o : Outcome} {charge : ℕ} {marks : List
 
     -- what is left to do after it
     abbrev after : ℕ → List Visit → Outcome
-    after n vs = scan (limit - length ms) m limit (charge - 1) (v.page ∷ ms) (vs ++ st) (sum + n)
+    after n vs = scan (limit - length ms) m limit (charge - 1) (v.page ∷ ms) (vs ++ st) (seen.sum + n)
 
     next : follow charge v (turn m limit charge ms v) after ≡ o
     unfolding scan
     next =
         let f : suc (limit - length ms) ≡ suc limit - length ms = omega (arith, few) in
-        (λ i. scan (f i) m limit charge ms (sym e i) sum) ∙ w.same
+        (λ i. scan (f i) m limit charge ms (sym e i) seen.sum) ∙ w.same
 
     -- A is broken
     pub not_admitted : (b : Bool) → Decides b ((2 ≤ v.page) × (v.page ≤ limit) × (get_or marks v.page false ≡ false)) → b ≡ false → o ≡ refused v.page A charge
@@ -164,17 +170,17 @@ module _ {m : Contents} {limit : ℕ} {o : Outcome} {charge : ℕ} {marks : List
           ]
 
       -- the visit passes: the scan goes on
-      pub onwards : (n : ℕ) (vs stack₁ : List Visit) (charge₁ : ℕ) → limit ≤ 1024 → 0 < charge → judged (m v.page) v ≡ onward n vs → stack₁ ≡ vs ++ st → charge₁ ≡ charge - 1 → n ≤ 655350 →
-          Scanning m limit o charge₁ (set marks v.page true) stack₁ (sum + n) (pages + 1) (v.page ∷ ms)
-      onwards n vs stack₁ charge₁ lim p j hd ch s =
+      pub onwards : (n : ℕ) (vs stack₁ : List Visit) (charge₁ : ℕ) (seen₁ : Seen) → seen₁ ≡ added n → limit ≤ 1024 → 0 < charge → judged (m v.page) v ≡ onward n vs → stack₁ ≡ vs ++ st → charge₁ ≡ charge - 1 → n ≤ 655350 →
+          Scanning m limit o charge₁ (set marks v.page true) stack₁ seen₁ (v.page ∷ ms)
+      onwards n vs stack₁ charge₁ seen₁ more lim p j hd ch s =
           let t : turn m limit charge ms v ≡ onward n vs = paid (onward n vs) p j in
           let ps = turn_forth m limit charge ms v n vs t in
           let f : suc limit - length (v.page ∷ ms) ≡ limit - length ms = omega arith in
           let sm = w.small in
           let ct = w.count in
           let lg = w.long in
-          record {
-            same = (λ i. scan (f i) m limit (ch i) (v.page ∷ ms) (hd i) (sum + n)) ∙ sym (ap (λ t. follow charge v t after) t) ∙ next;
+          subst (λ x. Scanning m limit o charge₁ (set marks v.page true) stack₁ x (v.page ∷ ms)) (sym more) (record {
+            same = (λ i. scan (f i) m limit (ch i) (v.page ∷ ms) (hd i) (seen.sum + n)) ∙ sym (ap (λ t. follow charge v t after) t) ∙ next;
             once = (ps.admitted.1, w.once);
             range = ((low, high), w.range);
             marked = λ q. marks_more q (omega arith);
@@ -182,7 +188,7 @@ module _ {m : Contents} {limit : ℕ} {o : Outcome} {charge : ℕ} {marks : List
             fits = subst (λ xs. StackFits 55 xs) (sym hd) (fits_pass m limit 55 charge ms v st n vs next_fits ps);
             count = omega arith;
             small = omega arith;
-          }
+          })
 
 -- 3. the memory: its pages stay
 
@@ -192,9 +198,9 @@ Same m₀ m = m.pages ≡ m₀.pages
 as_granted : (m₀ m : Image) (c : ℕ) → Same m₀ m → m.charge ≡ c → m ≡ granted m₀ c
 as_granted m₀ m c e q = λ i. record { pages = e i; charge = q i }
 
-module _ (m₀ m : Image) {limit : ℕ} {o : Outcome} {marks : List Bool} {stack : List Visit} {sum pages : ℕ} {ms : List ℕ}
-    (w : Scanning (contents m₀) limit o m.charge marks stack sum pages ms) (e : Same m₀ m) where
-  pub ends : stack ≡ [] → (seen : List ℕ) × (pages ≡ length seen) × Accepts o m₀ sum seen m marks
+module _ (m₀ m : Image) {limit : ℕ} {o : Outcome} {marks : List Bool} {stack : List Visit} {seen : Seen} {ms : List ℕ}
+    (w : Scanning (contents m₀) limit o m.charge marks stack seen ms) (e : Same m₀ m) where
+  pub ends : stack ≡ [] → ScansPages o m₀ (Ok seen) m marks
   ends z = (ms, w.count, ((m.charge, finished w z, as_granted m₀ m m.charge e refl), w.marked))
 
   module _ {v : Visit} {st : List Visit} (n : stack ≡ v ∷ st) where
@@ -210,21 +216,12 @@ module _ (m₀ m : Image) {limit : ℕ} {o : Outcome} {marks : List Bool} {stack
       )
       visit_refused (Unread a) m' stack' h = (v.page, v.level, unread w n low high new h.0, h.2, h.1 ∙ as_granted m₀ m 0 e h.0)
       visit_refused (Absent a) m' stack' h = let l = ap length e in absurd (elim h.0 [ inl z ↦ omega arith | inr z ↦ omega arith ])
-      visit_refused Shut m' stack' h = absurd h
-      visit_refused Outside m' stack' h = absurd h
-      visit_refused Work m' stack' h = absurd h
-      visit_refused NoHeader m' stack' h = absurd h
-      visit_refused OtherOrder m' stack' h = absurd h
-      visit_refused NoEvent m' stack' h = absurd h
-      visit_refused CountFull m' stack' h = absurd h
-      visit_refused HeightFull m' stack' h = absurd h
-      visit_refused Room m' stack' h = absurd h
-      visit_refused (Unwritten a) m' stack' h = absurd h
+      visit_refused _ m' stack' h = absurd h
 
-      pub visit_passed : (k : ℕ) (m' : Image) (stack' : List Visit) → limit ≤ 1024 → Visits m v st (Ok k) m' stack' →
-          Scanning (contents m₀) limit o m'.charge (set marks v.page true) stack' (sum + k) (pages + 1) (v.page ∷ ms) × Same m₀ m'
-      visit_passed k m' stack' lim h =
+      pub visit_passed : (k : ℕ) (m' : Image) (stack' : List Visit) (seen' : Seen) → seen' ≡ added w k → limit ≤ 1024 → Visits m v st (Ok k) m' stack' →
+          Scanning (contents m₀) limit o m'.charge (set marks v.page true) stack' seen' (v.page ∷ ms) × Same m₀ m'
+      visit_passed k m' stack' seen' more lim h =
           let j = h.2.0 in (
-            onwards w n low high new k j.0 stack' m'.charge lim h.0 (subst (λ (f : Contents). judged (f v.page) v ≡ onward k j.0) (same_contents m₀ m e) j.1) j.2 (ap (λ x. x.charge) h.1) h.2.1,
+            onwards w n low high new k j.0 stack' m'.charge seen' more lim h.0 (subst (λ (f : Contents). judged (f v.page) v ≡ onward k j.0) (same_contents m₀ m e) j.1) j.2 (ap (λ x. x.charge) h.1) h.2.1,
             ap (λ x. x.pages) h.1 ∙ e,
           )

@@ -1,11 +1,12 @@
 -- What the scan of an opening answers, told by the outcome of the theory's `opened`.
 use Rattle.std.specs.Prelude.{◌≡◌, ℕ, ◌<◌, ◌≤◌, min, Bool, false, not, List, length, Ok, Err, Result, slice_index_or}
+use Rattle.layout.specs.declared.header.Header.{Header}
 use Rattle.pages.specs.Image.{Image, granted}
 use Rattle.tree.specs.Tree.{limit_of}
 use Rattle.tree.specs.Scan.{Outcome, accepted, refused, uncharged, absent, opened}
 use Rattle.faults.specs.Accesses.{contents}
 use Rattle.faults.specs.declared.fault.Fault.{Fault}
-use Rattle.faults.specs.declared.fault.Fault.TheVariants.{Shut, Outside, Work, Absent, Unread, NoHeader, OtherOrder, Unsound, NoEvent, CountFull, HeightFull, Room, Unwritten}
+use Rattle.faults.specs.declared.fault.Fault.TheVariants.{Work, Unread, NoHeader, Unsound}
 use Rattle.walks.specs.declared.scanning.Seen.{Seen}
 use Rattle.walks.specs.Visits.{UnchargedAt}
 
@@ -25,17 +26,7 @@ Accepts o m sum seen m' marks = ((left : ℕ) × (o ≡ accepted seen sum left) 
 abbrev pub Refuses : Outcome → Image → Fault → Image → Type 0
 Refuses o m (Unsound p r) m' = (left : ℕ) × (o ≡ refused p r left) × (m' ≡ granted m left)
 Refuses o m (Unread a) m' = (p : ℕ) × (level : ℕ) × (o ≡ uncharged p level) × UnchargedAt a p level × (m' ≡ granted m 0)
-Refuses o m (Absent a) m' = ⊥
-Refuses o m Shut m' = ⊥
-Refuses o m Outside m' = ⊥
-Refuses o m Work m' = ⊥
-Refuses o m NoHeader m' = ⊥
-Refuses o m OtherOrder m' = ⊥
-Refuses o m NoEvent m' = ⊥
-Refuses o m CountFull m' = ⊥
-Refuses o m HeightFull m' = ⊥
-Refuses o m Room m' = ⊥
-Refuses o m (Unwritten a) m' = ⊥
+Refuses o m _ m' = ⊥
 
 -- the scan of all pages, before the sums are asked
 abbrev pub ScansPages : Outcome → Image → Result Seen Fault → Image → List Bool → Type 0
@@ -47,25 +38,14 @@ abbrev pub Tells : Outcome → Image → ℕ → Result (Unit {0}) Fault → Ima
 Tells o m total (Ok u) m' marks = (seen : List ℕ) × Accepts o m total seen m' marks
 Tells o m total (Err f) m' marks = Refuses o m f m'
 
--- which is that of the opening, for a header with this height, root and total, over addresses up to top
-abbrev pub TellsOpened : Image → ℕ → ℕ → ℕ → ℕ → ℕ → Result (Unit {0}) Fault → Image → List Bool → Type 0
-TellsOpened m limit height root total top r m' marks =
-    Tells (opened (contents m) (last_page limit (length m.pages)) m.charge height root total top) m total r m' marks
+-- which is that of the opening, for a header, over addresses up to top
+abbrev pub TellsOpened : Image → ℕ → Header → ℕ → Result (Unit {0}) Fault → Image → List Bool → Type 0
+TellsOpened m limit h top r m' marks =
+    Tells (opened (contents m) (last_page limit (length m.pages)) m.charge h.height h.root h.total top) m h.total r m' marks
 
 -- A scan of the memory m with `work` work records lent; m' and marks are after it. With fewer than 64 records, and then at a height above 6, no page
 -- is read. Else the outcome of the opening tells the answer. After a refusal nothing is said of the marks.
-abbrev pub Scans : Image → ℕ → ℕ → ℕ → ℕ → ℕ → ℕ → Result (Unit {0}) Fault → Image → List Bool → Type 0
-Scans m limit height root total top work (Err Work) m' marks = (work < 64) × (m' ≡ m)
-Scans m limit height root total top work (Err NoHeader) m' marks = (64 ≤ work) × (6 < height) × (m' ≡ m)
-Scans m limit height root total top work (Ok u) m' marks = (64 ≤ work) × (height ≤ 6) × TellsOpened m limit height root total top (Ok u) m' marks
-Scans m limit height root total top work (Err (Unsound p r)) m' marks = (64 ≤ work) × (height ≤ 6) × TellsOpened m limit height root total top (Err (Unsound p r)) m' marks
-Scans m limit height root total top work (Err (Unread a)) m' marks = (64 ≤ work) × (height ≤ 6) × TellsOpened m limit height root total top (Err (Unread a)) m' marks
-Scans m limit height root total top work (Err (Absent a)) m' marks = ⊥
-Scans m limit height root total top work (Err Shut) m' marks = ⊥
-Scans m limit height root total top work (Err Outside) m' marks = ⊥
-Scans m limit height root total top work (Err OtherOrder) m' marks = ⊥
-Scans m limit height root total top work (Err NoEvent) m' marks = ⊥
-Scans m limit height root total top work (Err CountFull) m' marks = ⊥
-Scans m limit height root total top work (Err HeightFull) m' marks = ⊥
-Scans m limit height root total top work (Err Room) m' marks = ⊥
-Scans m limit height root total top work (Err (Unwritten a)) m' marks = ⊥
+abbrev pub Scans : Image → ℕ → Header → ℕ → ℕ → Result (Unit {0}) Fault → Image → List Bool → Type 0
+Scans m limit h top work (Err Work) m' marks = (work < 64) × (m' ≡ m)
+Scans m limit h top work (Err NoHeader) m' marks = (64 ≤ work) × (6 < h.height) × (m' ≡ m)
+Scans m limit h top work r m' marks = (64 ≤ work) × (h.height ≤ 6) × TellsOpened m limit h top r m' marks

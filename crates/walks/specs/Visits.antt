@@ -10,7 +10,7 @@ use Rattle.tree.specs.Scan.{judged, breaks, onward}
 use Rattle.faults.specs.Accesses.{contents}
 use Rattle.faults.specs.declared.fault.Access.{Access}
 use Rattle.faults.specs.declared.fault.Fault.{Fault}
-use Rattle.faults.specs.declared.fault.Fault.TheVariants.{Shut, Outside, Work, Absent, Unread, NoHeader, OtherOrder, Unsound, NoEvent, CountFull, HeightFull, Room, Unwritten}
+use Rattle.faults.specs.declared.fault.Fault.TheVariants.{Absent, Unread, Unsound}
 
 -- a rule that one page can show by itself
 abbrev pub OfPage : Rule → Type 0
@@ -37,13 +37,4 @@ Visits m v stack (Ok n) m' stack' = (0 < m.charge) × (m' ≡ spent m) × Judges
 Visits m v stack (Err (Unsound p r)) m' stack' = (0 < m.charge) × (m' ≡ spent m) × (p ≡ v.page) × Judges (contents m v.page) v stack (Err r) stack'
 Visits m v stack (Err (Unread a)) m' stack' = (m.charge ≡ 0) × (m' ≡ m) × UnchargedAt a v.page v.level
 Visits m v stack (Err (Absent a)) m' stack' = Lacks m v.page × (m' ≡ m)
-Visits m v stack (Err Shut) m' stack' = ⊥
-Visits m v stack (Err Outside) m' stack' = ⊥
-Visits m v stack (Err Work) m' stack' = ⊥
-Visits m v stack (Err NoHeader) m' stack' = ⊥
-Visits m v stack (Err OtherOrder) m' stack' = ⊥
-Visits m v stack (Err NoEvent) m' stack' = ⊥
-Visits m v stack (Err CountFull) m' stack' = ⊥
-Visits m v stack (Err HeightFull) m' stack' = ⊥
-Visits m v stack (Err Room) m' stack' = ⊥
-Visits m v stack (Err (Unwritten a)) m' stack' = ⊥
+Visits m v stack (Err _) m' stack' = ⊥

@@ -1,5 +1,5 @@
 // The scan of an opening: every page of a tree is read and asked for the rules of a sound tree.
-ghost use Rattle.std.specs.Prelude.{◌≡◌, suc, ◌+◌, ◌≤◌, false, [], length, Decides, slice_index_or};
+ghost use Rattle.std.specs.Prelude.{◌≡◌, suc, ◌≤◌, false, [], length, Decides, slice_index_or};
 ghost use Rattle.tree.specs.Scan.{start as first_visits, scan as scanned};
 ghost use Rattle.faults.specs.Accesses.{contents};
 ghost use Rattle.walks.specs.Scans.{last_page, ScansPages, Scans};
@@ -7,6 +7,8 @@ ghost use Rattle.walks.specs.Scans.{last_page, ScansPages, Scans};
 use crate::scanning::Seen;
 use crate::visiting::visit_page;
 use faults::fault::Fault;
+use layout::header::Header;
+use layout::page_ref::PageRef;
 use layout::visit::{Rule, Visit};
 use pages::store::PageStore;
 use records::tray::Tray;
@@ -26,19 +28,11 @@ fn is_new(page: u16, last: u16, marks: &[bool; 1026]) -> bool
     page >= 2 && page <= last && !marks[page as usize]
 }
 
-// Rule F: whether the counts sum to the total, and a tree with pages leaves 6 of the pages 2 to `last` free.
-fn sums_hold(seen: Seen, total: u32, last: u16) -> bool
-    ensures { Decides result ((seen.sum ≡ total) × (1 ≤ seen.pages → seen.pages + 7 ≤ last)) }
-{
-    seen.sum == total && (seen.pages == 0 || seen.pages as u32 + 7 <= last as u32)
-}
-
 // Visits every page, depth first, a page before its children, lower regions first. Rule A is asked before a page is read.
 fn scan_pages<S: PageStore>(
     store: &mut S,
     last: u16,
-    height: u8,
-    root: u16,
+    root: PageRef,
     top: u64,
     work: &mut [Visit],
     marks: &mut [bool; 1026],
@@ -46,56 +40,57 @@ fn scan_pages<S: PageStore>(
     requires last { last ≤ 1024 }
     requires pages { last ≤ length (S.meaning store.old).pages }
     requires work { 64 ≤ length work.old }
-    requires height { height ≤ 6 }
-    ensures { ScansPages (scanned (suc last) (contents (S.meaning store.old)) last (S.meaning store.old).charge [] (first_visits height root top) 0)
+    requires height { root.level ≤ 6 }
+    ensures { ScansPages (scanned (suc last) (contents (S.meaning store.old)) last (S.meaning store.old).charge [] (first_visits root.level root.page top) 0)
         (S.meaning store.old) result (S.meaning store.new) marks.new }
 {
     *marks = [false; 1026];
     let mut pending = Tray::over(work);
-    if height > 0 {
+    if root.level > 0 {
         let _ = pending.put(Visit {
-            page: root,
-            level: height,
+            page: root.page,
+            level: root.level,
             lo: 0,
             hi: top,
         });
     }
-    let mut pages = 0u16;
-    let mut sum = 0u32;
+    let mut seen = Seen::default();
     while let Some(v) = pending.pop() {
         if !is_new(v.page, last, marks) {
             return Err(Fault::Unsound(v.page, Rule::A));
         }
-        sum += visit_page(store, v, &mut pending)?;
+        let count = visit_page(store, v, &mut pending)?;
         marks[v.page as usize] = true;
-        pages += 1;
+        seen.add(count);
     }
-    Ok(Seen { pages, sum })
+    Ok(seen)
 }
 
-// The opening's scan, for a header with this height, root and total, over addresses up to `top`. A page past the store's last or past 1,024 is
-// not used, whatever `limit` says. The pages yet to visit are kept in the work records. An accepted tree's pages are marked, and no others.
+// The opening's scan, for a header, over addresses up to `top`. A page past the store's last or past 1,024 is not used, whatever `limit` says.
+// The pages yet to visit are kept in the work records. An accepted tree's pages are marked, and no others.
 pub fn scan<S: PageStore>(
     store: &mut S,
     limit: u16,
-    height: u8,
-    root: u16,
-    total: u32,
+    header: Header,
     top: u64,
     work: &mut [Visit],
     marks: &mut [bool; 1026],
 ) -> Result<(), Fault>
-    ensures { Scans (S.meaning store.old) limit height root total top (length work.old) result (S.meaning store.new) marks.new }
+    ensures { Scans (S.meaning store.old) limit header top (length work.old) result (S.meaning store.new) marks.new }
 {
     if work.len() < 64 {
         return Err(Fault::Work);
     }
-    if height > 6 {
+    if header.height > 6 {
         return Err(Fault::NoHeader);
     }
     let last = last_used(limit, store.size());
-    let seen = scan_pages(store, last, height, root, top, work, marks)?;
-    if !sums_hold(seen, total, last) {
+    let root = PageRef {
+        page: header.root,
+        level: header.height,
+    };
+    let seen = scan_pages(store, last, root, top, work, marks)?;
+    if !seen.sums_hold(header.total, last) {
         return Err(Fault::Unsound(1, Rule::F));
     }
     Ok(())

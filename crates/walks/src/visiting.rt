@@ -1,7 +1,7 @@
 // One visit of a scan: its page is read, asked for the rules that one page can show, and opened up.
-ghost use Rattle.std.specs.Prelude.{◌≡◌, ◌+◌, ◌≤◌, length};
+ghost use Rattle.std.specs.Prelude.{◌≡◌, ◌≤◌};
 ghost use Rattle.layout.specs.Bytes.{content_of};
-ghost use Rattle.walks.specs.Pending.{to_come};
+ghost use Rattle.walks.specs.Pending.{to_come, HasRoom, SameSize};
 ghost use Rattle.walks.specs.Visits.{Judges, Visits};
 
 use crate::children::{counted, put_children};
@@ -18,10 +18,9 @@ use records::tray::Tray;
 // on those that are pending, and answers 0.
 fn judge(page: &[u8; 128], v: Visit, pending: &mut Tray<'_, Visit>) -> Result<u32, Rule>
     requires level { 1 ≤ v.level }
-    requires room { pending.old.used + 10 ≤ length pending.old.memory.now }
-    ensures judges { Judges (content_of page.now) v (to_come pending.old.memory.now pending.old.used)
-        result (to_come pending.new.memory.now pending.new.used) }
-    ensures size { length pending.new.memory.now ≡ length pending.old.memory.now }
+    requires room { HasRoom 10 pending.old }
+    ensures judges { Judges (content_of page.now) v (to_come pending.old) result (to_come pending.new) }
+    ensures size { SameSize pending.old pending.new }
 {
     check_page(page, v)?;
     let list = EntryList::of_page(page);
@@ -39,22 +38,15 @@ pub(crate) fn visit_page<S: PageStore>(
     pending: &mut Tray<'_, Visit>,
 ) -> Result<u32, Fault>
     requires level { 1 ≤ v.level }
-    requires room { pending.old.used + 10 ≤ length pending.old.memory.now }
-    ensures visits { Visits (S.meaning store.old) v (to_come pending.old.memory.now pending.old.used)
-        result (S.meaning store.new) (to_come pending.new.memory.now pending.new.used) }
-    ensures size { length pending.new.memory.now ≡ length pending.old.memory.now }
+    requires room { HasRoom 10 pending.old }
+    ensures visits { Visits (S.meaning store.old) v (to_come pending.old) result (S.meaning store.new) (to_come pending.new) }
+    ensures size { SameSize pending.old pending.new }
 {
     let mut page = [0; 128];
-    fetch(
-        store,
-        PageRef {
-            page: v.page,
-            level: v.level,
-        },
-        &mut page,
-    )?;
-    match judge(&page, v, pending) {
-        Ok(count) => Ok(count),
-        Err(rule) => Err(Fault::Unsound(v.page, rule)),
-    }
+    let at = PageRef {
+        page: v.page,
+        level: v.level,
+    };
+    fetch(store, at, &mut page)?;
+    judge(&page, v, pending).map_err(|rule| Fault::Unsound(v.page, rule))
 }

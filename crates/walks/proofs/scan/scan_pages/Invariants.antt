@@ -10,10 +10,10 @@ invariant-loop-v g l =
     let m₀ = g.S.PageStore.meaning l.initial.store in
     let m = g.S.PageStore.meaning l.store in
     ((ms : List ℕ)
-    × Scanning (contents m₀) l.last (scan (suc l.last) (contents m₀) l.last m₀.charge [] (start l.height l.root l.top) 0)
-    m.charge l.marks (to_come l.pending.memory.now l.pending.used) l.sum l.pages ms)
+    × Scanning (contents m₀) l.last (scan (suc l.last) (contents m₀) l.last m₀.charge [] (start l.fn.root.level l.fn.root.page l.top) 0)
+    m.charge l.marks (to_come l.pending) l.seen ms)
     × Same m₀ m
     × (64 ≤ length l.pending.memory.now)
 
 abbrev pub decreases-loop-v : goal.decreases-loop-v
-decreases-loop-v g l = l.last + 1 - l.pages
+decreases-loop-v g l = l.last + 1 - l.seen.pages
