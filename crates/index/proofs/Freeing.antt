@@ -20,7 +20,7 @@ fits_behind [] xs f = f
 fits_behind (w ∷ ws) xs f = fits_behind ws xs f.1
 
 -- what stands in front of the first pages of a path, when it is put back from the front on
-behind : ℕ → List ℕ → List ℕ
+abbrev behind : ℕ → List ℕ → List ℕ
 behind i path = reverse (drop (suc i) path)
 
 one_more : (i : ℕ) (path : List ℕ) → i < length path → reverse (take (suc i) path) ≡ get_or path i 0 ∷ reverse (take i path)

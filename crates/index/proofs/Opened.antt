@@ -45,7 +45,7 @@ module _ (o : Order) (m : Image) (k : Known) (work : ℕ) where
   same_last = omega arith
 
   -- 9 and 12 in the tree
-  pub scan_refused : (h : Header) (f : Fault) (m' : Image) (marks : List Bool) → ReadsOurs o m work h → Scans (spent m) (limit m) h.height h.root h.total (top o) work (Err f) m' marks →
+  pub scan_refused : (h : Header) (f : Fault) (m' : Image) (marks : List Bool) → ReadsOurs o m work h → Scans (spent m) (limit m) h (top o) work (Err f) m' marks →
       Opening o (state m k) work (refusal f) (state m' shut)
   scan_refused h Work m' marks got s = absurd (omega (arith, s.0, got.records))
   scan_refused h NoHeader m' marks got s = absurd (omega (arith, s.1, got.proper.height_high))
@@ -81,7 +81,7 @@ free_marked marks seen a (suc n) marked =
     λ i. cond (test i) (a ∷ rest i) (rest i)
 
 pub scan_accepted : (o : Order) (m : Image) (k : Known) (work : ℕ) (h : Header) (m' : Image) (marks : List Bool) (free : List ℕ) → ReadsOurs o m work h →
-    Scans (spent m) (limit m) h.height h.root h.total (top o) work (Ok tt) m' marks → free ≡ unmarked marks 2 (limit m - 1) →
+    Scans (spent m) (limit m) h (top o) work (Ok tt) m' marks → free ≡ unmarked marks 2 (limit m - 1) →
     Opening o (state m k) work accepted (state m' (knows h.height h.root h.total free))
 scan_accepted o m k work h m' marks free got (records, low, (seen, ((left, e, em), marked))) ef =
     let free-is : free ≡ unused seen (usable (limit m)) = ef ∙ free_marked marks seen 2 (limit m - 1) marked in
@@ -98,8 +98,8 @@ module _ {o : Order} {m m₁ : Image} {h : Header} (read : Head o m h m₁) wher
 
   -- as the code calls it
   pub scans_at : {pages last end : ℕ} (work : ℕ) (r : Result (Unit {0}) Fault) (m' : Image) (marks : List Bool) → pages ≡ length m₁.pages → last ≡ limit_of pages → end ≡ top o →
-      Scans m₁ last h.height h.root h.total end work r m' marks → Scans (spent m) (limit m) h.height h.root h.total (top o) work r m' marks
+      Scans m₁ last h end work r m' marks → Scans (spent m) (limit m) h (top o) work r m' marks
   scans_at {last = last} {end} work r m' marks ep el et s =
-      subst (λ (y : ℕ). Scans (spent m) (limit m) h.height h.root h.total y work r m' marks) et
-      (subst (λ (y : ℕ). Scans (spent m) y h.height h.root h.total end work r m' marks) (last_limit ep el)
-      (subst (λ (y : Image). Scans y last h.height h.root h.total end work r m' marks) read.got.spends s))
+      subst (λ (y : ℕ). Scans (spent m) (limit m) h y work r m' marks) et
+      (subst (λ (y : ℕ). Scans (spent m) y h end work r m' marks) (last_limit ep el)
+      (subst (λ (y : Image). Scans y last h end work r m' marks) read.got.spends s))

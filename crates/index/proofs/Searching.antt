@@ -12,6 +12,8 @@ use Rattle.tree.specs.SearchRuns.{Outcome, outcome}
 use Rattle.tree.specs.SearchRuns.Ending.{done}
 use Rattle.searches.specs.declared.find.Find.{Find}
 use Rattle.searches.specs.declared.find.Found.{Found}
+use Rattle.layout.specs.declared.page_ref.PageRef.{PageRef}
+use Rattle.searches.specs.Sought.{Sought}
 use Rattle.searches.specs.Finds.{ending_of}
 use Rattle.searches.specs.Walking.{StandsAs}
 use Rattle.searches.specs.Searching.{Tells, Searches}
@@ -29,10 +31,17 @@ use Rattle.index.proofs.Keeps.{same_pages}
 use Rattle.index.proofs.Changing.{knows_file}
 use Rattle.index.proofs.Tallying.{open_steps}
 
+-- a box and a start in an order, and the root of a tree
+abbrev seek : Order → List ℕ → List ℕ → ℕ → Sought
+seek o lo hi start = record { order = o; low = lo; high = hi; start = start }
+
+abbrev rooted : ℕ → ℕ → PageRef
+rooted h root = record { page = root; level = h }
+
 tells_answer : (o : Order) (out : Outcome) (r : Found) (memory : List Find) → Tells o out r memory → found (take r.count memory) r.reads (ending_of r.ending) ≡ answer_of o out
 tells_answer o out r memory t = λ i. found (t.finds i) (t.reads i) (t.ending i)
 
-module _ (o : Order) (m m' : Image) (h root start : ℕ) (lo hi : List ℕ) (memory memory' : List Find) (r : Found) (s : Searches o lo hi start m root h (top o) memory r m' memory')
+module _ (o : Order) (m m' : Image) (h root start : ℕ) (lo hi : List ℕ) (memory memory' : List Find) (r : Found) (s : Searches (seek o lo hi start) m (rooted h root) (top o) memory r m' memory')
     (il : InSpaceOf o lo) (ih : InSpaceOf o hi) where
   -- the answer tells what the search of the tree on file comes to
   tells : (height total : ℕ) (t : Held Node) → SoundOf (contents m) (limit m) height total (top o) t → h ≡ height → root ≡ root_of t →
@@ -71,7 +80,7 @@ pub outside_at : {o : Order} {p q : List ℕ} {f : Fault} → p ≡ q → LiesOu
 outside_at {o} {f = f} e at = subst (λ (y : List ℕ). LiesOutside o y f) e at
 
 pub searched_at : (o : Order) (m m' : Image) (h root total : ℕ) (free lo hi : List ℕ) {start most : ℕ} {memory memory' : List Find} {r : Found} → InSpaceOf o lo → InSpaceOf o hi →
-    most ≡ top o → Searches o lo hi start m root h most memory r m' memory' →
+    most ≡ top o → Searches (seek o lo hi start) m (rooted h root) most memory r m' memory' →
     Step o (state m (knows h root total free)) (found (take r.count memory') r.reads (ending_of r.ending)) (state m' (knows h root total free)) (searches lo hi start (length memory))
 searched_at o m m' h root total free lo hi {start} {most} {memory} {memory'} {r} il ih e s =
-    search_steps_open o m m' h root start lo hi memory memory' r (subst (λ (t : ℕ). Searches o lo hi start m root h t memory r m' memory') e s) il ih total free
+    search_steps_open o m m' h root start lo hi memory memory' r (subst (λ (t : ℕ). Searches (seek o lo hi start) m (rooted h root) t memory r m' memory') e s) il ih total free

@@ -10,11 +10,11 @@ use crate::head::{read_head, top_of};
 use crate::index::{Index, OpenTree};
 use faults::fault::Fault;
 use layout::page_ref::PageRef;
+use layout::visit::Visit;
 use orders::order::PointOrder;
 use pages::store::PageStore;
 use records::free::FreeList;
 use tree::copy_limit::last_usable;
-use layout::visit::Visit;
 use walks::scan::scan;
 
 impl<S: PageStore, O: PointOrder> Index<S, O> {

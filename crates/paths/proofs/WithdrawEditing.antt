@@ -1,5 +1,5 @@
 -- The edits of one page are the tree's.
-use Rattle.std.proofs.Common.{◌≡◌, ℕ, suc, ◌-◌, ◌≤◌, Bool, true, false, cond, eqb, leb, List, [], ◌∷◌, length, Some, None, Option, sym, refl, ap, ◌∙◌, arith}
+use Rattle.std.proofs.Common.{◌≡◌, ℕ, suc, ◌-◌, ◌≤◌, Bool, true, false, cond, eqb, leb, List, [], ◌∷◌, length, Some, None, Option, Ok, Err, Result, sym, refl, ap, ◌∙◌, arith}
 use Rattle.layout.specs.declared.entry.Entry.{Entry}
 use Rattle.layout.specs.declared.change.ChildPages.TheVariants.{One}
 use Rattle.layout.specs.Edits as page
@@ -84,7 +84,7 @@ restores_some a v es after (Err f) left n q t = absurd (omega (arith, n, t.0))
 pub restores_none : (a : ℕ) (es after : List Entry) (left : Option ℕ) → left ≡ None → after ≡ page.drop_child_lem es a → after ≡ clear es a (left_of left)
 restores_none a es after left q t = t ∙ drop_same es a ∙ ap (λ (x : Option ℕ). clear es a (left_of x)) (sym q)
 
-pub few_some : (a v : ℕ) (es after : List Entry) (r : Bool) → length es ≤ 10 → Puts a (One v) es r after → length after ≤ 10
+pub few_some : (a v : ℕ) (es after : List Entry) (r : Result (Unit {0}) Full) → length es ≤ 10 → Puts a (One v) es r after → length after ≤ 10
 few_some a v es after r n t = few_left es after a (held v) n (restores_some a v es after r (Some v) n refl t)
 
 pub few_none : (a : ℕ) (es after : List Entry) → length es ≤ 10 → after ≡ page.drop_child_lem es a → length after ≤ 10
