@@ -43,6 +43,7 @@ fn put_page(page: &mut [u8; 128], level: u8, number: u16, entries: &[Entry])
     *page = [0; 128];
     let [low, high] = number.to_le_bytes();
     page[..4].copy_from_slice(&[level, entries.len() as u8, low, high]);
+    // By place: of what `chunks_exact_mut` lent, a proof knows only the length.
     for (i, e) in entries.iter().enumerate() {
         let p = 8 + 12 * i;
         put_entry(&mut page[p..p + 12], *e);

@@ -91,7 +91,8 @@ impl EntryList {
     }
 }
 
-// The place of the first key that is not below the address, or the end.
+// The place of the first key that is not below the address, or the end. It looks from the front, since the keys of a page
+// that was read may be in any order.
 fn first_not_below(entries: &[Entry], address: u64) -> usize
     ensures { LeafPlace entries.now address result }
 {
