@@ -139,4 +139,4 @@ lodge_keeps_old m m' limit total top s a NoEvent k t d = absurd d
 pub lodge_frees : LodgeFreeLaw
 lodge_frees m m' limit total top s a g k t d =
     let y = lodge_copies m limit total top s a k t d.allowed in
-    y.freed ∙ ap (λ (n : ℕ). path_of s.tree a ++ drop n s.free) (sym (d.used ∙ y.took)) ∙ ap (λ (ps : List ℕ). ps ++ drop g.used s.free) (sym d.path)
+    y.freed ∙ ap (λ (n : ℕ). path_of s.tree a ++ drop n s.free) (sym (d.used ∙ y.took)) ∙ ap (λ (ps : List ℕ). ps ++ drop g.trade.used s.free) (sym d.path)

@@ -15,7 +15,7 @@ use Rattle.paths.specs.LodgeRules.{Allowed, Unlodged, count_under}
 pub record RootIs (made : Made ℕ) (high used : ℕ) (m : Image) (g : Copied) (m' : Image) : Type 0 where
   pub root : g.root.page ≡ made.part
   pub height : g.root.level ≡ high
-  pub uses : g.used ≡ used + length made.writes
+  pub uses : g.trade.used ≡ used + length made.writes
   pub wrote : Wrote made.writes m m'
 
 abbrev pub Rooted : Made ℕ → ℕ → ℕ → Image → Result Copied Fault → Image → Type 0
@@ -29,8 +29,8 @@ Roots m h s free used r m' = Rooted (new_root_at h s [] (drop used free)) (raise
 pub record CopiedTo (u : Update) (old : List ℕ) (h : ℕ) (g : Copied) : Type 0 where
   pub root : g.root.page ≡ u.next.root
   pub height : g.root.level ≡ u.next.height
-  pub used : g.used ≡ length u.writes
-  pub path : reverse g.path.items ≡ old
+  pub used : g.trade.used ≡ length u.writes
+  pub path : reverse g.trade.path.items ≡ old
 
 abbrev pub LodgedBy : Image → ℕ → ℕ → ℕ → List ℕ → Result Copied Fault → Image → Type 0
 LodgedBy m h p a free (Ok g) m' =
