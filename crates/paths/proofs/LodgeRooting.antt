@@ -144,17 +144,18 @@ root_ends : (h : ℕ) (m m₁ m' : Image) (p a used : ℕ) (free : List ℕ) (r 
 root_ends h m m₁ m' p a used free (Ok g) c d q w b v =
     let k : Made (Split ℕ) = lodge_at (suc h) (contents m) p a free in
     let W : List Write = (new_root_at (suc h) k.part [] k.rest).writes in
-    let e : (new_root_at (suc h) k.part k.writes k.rest).writes ≡ k.writes ++ W = new_root_writes (suc h) k.part k.writes k.rest in (
-      c,
-      d,
-      record {
+    let e : (new_root_at (suc h) k.part k.writes k.rest).writes ≡ k.writes ++ W = new_root_writes (suc h) k.part k.writes k.rest in
+    record {
+      charged = c;
+      allowed = d;
+      copied = record {
         root = v.root ∙ sym (new_root_part (suc h) k.part k.writes k.rest);
         height = v.height;
         used = omega (arith, q, v.uses, ap length e, length-append k.writes W);
         path = b;
-      },
-      subst (λ (ws : List Write). Wrote ws (after_reads m (suc h)) m') (sym e) (wrote_more k.writes W (after_reads m (suc h)) m₁ m' w v.wrote),
-    )
+      };
+      wrote = subst (λ (ws : List Write). Wrote ws (after_reads m (suc h)) m') (sym e) (wrote_more k.writes W (after_reads m (suc h)) m₁ m' w v.wrote);
+    }
 root_ends h m m₁ m' p a used free (Err f) c d q w b v =
     let k : Made (Split ℕ) = lodge_at (suc h) (contents m) p a free in
     let W : List Write = (new_root_at (suc h) k.part [] k.rest).writes in
@@ -171,9 +172,9 @@ tree_roots zero m m₁ m' p a free g path r o l t b i u = absurd (omega arith)
 tree_roots (suc h) m m₁ m' p a free g path r o l t b i u =
     let k : Made (Split ℕ) = lodge_at (suc h) (contents m) p a free in
     let v : Rooted (new_root_at (suc h) k.part [] k.rest) (raised_at k.part (suc h)) g.trade.used m₁ r m' =
-    subst (λ (x : List ℕ). Rooted (new_root_at (suc h) k.part [] x) (raised_at k.part (suc h)) g.trade.used m₁ r m') t.2.rest
-    (subst (λ (x : Split ℕ). Rooted (new_root_at (suc h) x [] (drop g.trade.used free)) (raised_at x (suc h)) g.trade.used m₁ r m') t.2.pages u) in
-    root_ends h m m₁ m' p a g.trade.used free r t.0 (root_allowed h (length free) (contents m) p a free l t.1) t.2.uses t.3 (same_path (λ (c : Copied). c.trade.path) m (suc h) p a path r b i) v
+    subst (λ (x : List ℕ). Rooted (new_root_at (suc h) k.part [] x) (raised_at k.part (suc h)) g.trade.used m₁ r m') t.gives.rest
+    (subst (λ (x : Split ℕ). Rooted (new_root_at (suc h) x [] (drop g.trade.used free)) (raised_at x (suc h)) g.trade.used m₁ r m') t.gives.pages u) in
+    root_ends h m m₁ m' p a g.trade.used free r t.charged (root_allowed h (length free) (contents m) p a free l t.allowed) t.gives.uses t.wrote (same_path (λ (c : Copied). c.trade.path) m (suc h) p a path r b i) v
 
 -- the first page of all
 first_allowed : (m : Image) (p a : ℕ) (free : List ℕ) → 7 ≤ length free → Allowed (count_under 0 (contents m) p a) 1 1 (length free)
@@ -198,12 +199,12 @@ pub first_made : (m m' : Image) (p a q n next : ℕ) (free : List ℕ) (path : A
     → Wrote (write_of 1 q (entry a 1 ∷ []) ∷ []) m m' → LodgedBy m 0 p a free (Ok (record { root = record { page = q; level = 1 }; trade = record { used = next; path = path } })) m'
 unfolding path_at
 first_made m m' p a q n next [] path i b e l z w = absurd (omega (arith, e, l))
-first_made m m' p a q n next (x ∷ xs) path i b e l z w = (
-  omega arith,
-  first_allowed m p a (x ∷ xs) (omega (arith, e, l)),
-  record { root = z; height = refl; used = i; path = ap reverse b },
-  subst (λ (y : ℕ). Wrote (write_of 1 y (entry a 1 ∷ []) ∷ []) (after_reads m 0) m') z (subst (λ (y : Image). Wrote (write_of 1 q (entry a 1 ∷ []) ∷ []) y m') (after_none m) w),
-)
+first_made m m' p a q n next (x ∷ xs) path i b e l z w = record {
+  charged = omega arith;
+  allowed = first_allowed m p a (x ∷ xs) (omega (arith, e, l));
+  copied = record { root = z; height = refl; used = i; path = ap reverse b };
+  wrote = subst (λ (y : ℕ). Wrote (write_of 1 y (entry a 1 ∷ []) ∷ []) (after_reads m 0) m') z (subst (λ (y : Image). Wrote (write_of 1 q (entry a 1 ∷ []) ∷ []) y m') (after_none m) w);
+}
 
 never_misread : (m m' : Image) (p a : ℕ) (f : Fault) → Misread m 0 p a f m' → ⊥
 never_misread m m' p a f (refused d x e s k r i) = omega (arith, s.within)
@@ -212,7 +213,7 @@ never_misread m m' p a f (broken d q v r e s k b i) = omega (arith, s.within)
 -- an empty tree has no root to read
 any_root : (m m' : Image) (p a : ℕ) (free : List ℕ) (r : Result Copied Fault) → LodgedBy m 0 0 a free r m' → LodgedBy m 0 p a free r m'
 unfolding leaf_at path_at
-any_root m m' p a free (Ok g) t = t
+any_root m m' p a free (Ok g) t = record { charged = t.charged; allowed = t.allowed; copied = t.copied; wrote = t.wrote }
 any_root m m' p a free (Err f) (inl t) = absurd (never_misread m m' 0 a f t)
 any_root m m' p a free (Err f) (inr t) = inr t
 
