@@ -75,8 +75,8 @@ tree_thread (suc h) m p a free n =
 pub lodge_alone : (m m' : Image) (h p a : ℕ) (free : List ℕ) (r : Result Copied Fault) → LodgedBy m h p a free r m' → LeavesAlone m free m'
 lodge_alone m m' h p a free (Ok g) t =
     let ws : List Write = (lodge_by h (contents m) p a free).writes in
-    let y = tree_thread h (contents m) p a free (omega (arith, t.1.room)) in
-    wrote_alone ws ws [] m m' h free y.0 y.1 (append_none ws) t.3
+    let y = tree_thread h (contents m) p a free (omega (arith, t.allowed.room)) in
+    wrote_alone ws ws [] m m' h free y.0 y.1 (append_none ws) t.wrote
 lodge_alone m m' h p a free (Err f) (inl t) = misread_alone m m' h p a free f t
 lodge_alone m m' h p a free (Err f) (inr (c, denied d i)) = read_alone m m' h free i
 lodge_alone m m' h p a free (Err f) (inr (c, cut d u)) =

@@ -37,7 +37,7 @@ lodge_unread m m' l p a free x f h u = inl (misread_here m m' l p a f h u)
 
 leaf_one : (m m' : Image) (p a : ℕ) (free : List ℕ) (x : Plan) (r : Result Placed Fault) → 0 < m.charge → Leafed (after_reads m 1) (contents m p).entries a free x r m' → Lodged m 1 p a free x r m'
 unfolding lodge_at leaf_at page_splits_at path_splits_at
-leaf_one m m' p a free x (Ok g) c t = (omega arith, t.0, t.1, t.2)
+leaf_one m m' p a free x (Ok g) c t = record { charged = omega arith; allowed = t.allowed; gives = t.gives; wrote = t.wrote }
 leaf_one m m' p a free x (Err f) c t = inr (omega arith, t)
 
 pub lodge_leafed : (m m₂ m' : Image) (l p a : ℕ) (free : List ℕ) (x : Plan) (es : List Entry) (r : Result Placed Fault) → l ≡ 1 → Read m p l es m₂ → Leafed m₂ es a free x r m' → Lodged m l p a free x r m'
@@ -110,16 +110,17 @@ joins m m₁ m' h p a free x used (Ok g) c d q w v =
     let k : Made (Split ℕ) = lodge_at (suc h) (contents m) (pick es a) a free in
     let s : Split (List Entry) = fit_inner (swap es a k.part) in
     let W : List Write = (place_at (suc (suc h)) s [] k.rest).writes in
-    let e : (place_at (suc (suc h)) s k.writes k.rest).writes ≡ k.writes ++ W = place_writes (suc (suc h)) s k.writes k.rest in (
-      c,
-      d,
-      record {
+    let e : (place_at (suc (suc h)) s k.writes k.rest).writes ≡ k.writes ++ W = place_writes (suc (suc h)) s k.writes k.rest in
+    record {
+      charged = c;
+      allowed = d;
+      gives = record {
         pages = v.0.pages ∙ sym (place_part (suc (suc h)) s k.writes k.rest);
         rest = v.0.rest ∙ sym (place_rest (suc (suc h)) s k.writes k.rest);
         uses = omega (arith, q, v.0.uses, ap length e, length-append k.writes W);
-      },
-      subst (λ (ws : List Write). Wrote ws (after_reads m (suc (suc h))) m') (sym e) (wrote_more k.writes W (after_reads m (suc (suc h))) m₁ m' w v.1),
-    )
+      };
+      wrote = subst (λ (ws : List Write). Wrote ws (after_reads m (suc (suc h))) m') (sym e) (wrote_more k.writes W (after_reads m (suc (suc h))) m₁ m' w v.1);
+    }
 joins m m₁ m' h p a free x used (Err f) c d q w v =
     let es : List Entry = (contents m p).entries in
     let k : Made (Split ℕ) = lodge_at (suc h) (contents m) (pick es a) a free in
@@ -130,17 +131,17 @@ joins m m₁ m' h p a free x used (Err f) c d q w v =
 
 climbs : (m m₁ m' : Image) (h p a : ℕ) (free : List ℕ) (x : Plan) (g : Placed) (r : Result Placed Fault) → 0 < m.charge → length (contents m p).entries ≤ 10
     → Below m h p a free x (Ok g) m₁
-    → Places m₁ (suc (suc h)) (fit_inner (swap (contents m p).entries a (pages_in g.pages))) free g.used r m'
+    → Places m₁ (suc (suc h)) (fit_inner (swap (contents m p).entries a (pages_in g.pages))) free g.trade.used r m'
     → Lodged m (suc (suc h)) p a free x r m'
 climbs m m₁ m' h p a free x g r c n t u =
     let es : List Entry = (contents m p).entries in
     let k : Made (Split ℕ) = lodge_at (suc h) (contents m) (pick es a) a free in
-    let w : Wrote k.writes (after_reads m (suc (suc h))) m₁ = subst (λ (y : Image). Wrote k.writes y m₁) (after_more m (suc h)) t.3 in
-    let v : PlacedBy (place_at (suc (suc h)) (fit_inner (swap es a k.part)) [] k.rest) free g.used m₁ r m' =
-    subst (λ (y : List ℕ). PlacedBy (place_at (suc (suc h)) (fit_inner (swap es a k.part)) [] y) free g.used m₁ r m') t.2.rest
-    (subst (λ (y : Split ℕ). PlacedBy (place_at (suc (suc h)) (fit_inner (swap es a y)) [] (drop g.used free)) free g.used m₁ r m') t.2.pages u) in
-    joins m m₁ m' h p a free x g.used r (omega (arith, c, t.0))
-    (allowed_same _ _ _ _ _ _ _ (count_down h (contents m) p a) (height_down h (contents m) p a x n) (takes_down h (contents m) p a x n) t.1) t.2.uses w v
+    let w : Wrote k.writes (after_reads m (suc (suc h))) m₁ = subst (λ (y : Image). Wrote k.writes y m₁) (after_more m (suc h)) t.wrote in
+    let v : PlacedBy (place_at (suc (suc h)) (fit_inner (swap es a k.part)) [] k.rest) free g.trade.used m₁ r m' =
+    subst (λ (y : List ℕ). PlacedBy (place_at (suc (suc h)) (fit_inner (swap es a k.part)) [] y) free g.trade.used m₁ r m') t.gives.rest
+    (subst (λ (y : Split ℕ). PlacedBy (place_at (suc (suc h)) (fit_inner (swap es a y)) [] (drop g.trade.used free)) free g.trade.used m₁ r m') t.gives.pages u) in
+    joins m m₁ m' h p a free x g.trade.used r (omega (arith, c, t.charged))
+    (allowed_same _ _ _ _ _ _ _ (count_down h (contents m) p a) (height_down h (contents m) p a x n) (takes_down h (contents m) p a x n) t.allowed) t.gives.uses w v
 
 ten : {m m₂ : Image} {l k p a child : ℕ} {es : List Entry} → Goes m m₂ l k p a child es → length (contents m p).entries ≤ 10
 ten w = omega (arith, w.few, ap length w.holds)
@@ -167,13 +168,13 @@ lodge_fails (suc (suc h)) k m m₂ m' p a child es free x y f w e t =
 
 pub lodge_climbs : (l k : ℕ) (m m₂ m₁ m' : Image) (p a child : ℕ) (es : List Entry) (free : List ℕ) (x y : Plan) (g : Placed) (s : Split (List Entry)) (r : Result Placed Fault)
     → Goes m m₂ l k p a child es → y ≡ plan_below (length es) x → Lodged m₂ k child a free y (Ok g) m₁
-    → s ≡ fit_inner (swap es a (pages_in g.pages)) → Places m₁ l s free g.used r m' → Lodged m l p a free x r m'
+    → s ≡ fit_inner (swap es a (pages_in g.pages)) → Places m₁ l s free g.trade.used r m' → Lodged m l p a free x r m'
 lodge_climbs zero k m m₂ m₁ m' p a child es free x y g s r w e t q u = absurd (omega (arith, w.inner))
 lodge_climbs (suc zero) k m m₂ m₁ m' p a child es free x y g s r w e t q u = absurd (omega (arith, w.inner))
 lodge_climbs (suc (suc h)) k m m₂ m₁ m' p a child es free x y g s r w e t q u =
     climbs m m₁ m' h p a free x g r w.charged (ten w) (below m m₂ m₁ h k p a child es free x y (Ok g) w e t)
-    (subst (λ (z : Split (List Entry)). Places m₁ (suc (suc h)) z free g.used r m') (q ∙ ap (λ (z : List Entry). fit_inner (swap z a (pages_in g.pages))) w.holds) u)
+    (subst (λ (z : Split (List Entry)). Places m₁ (suc (suc h)) z free g.trade.used r m') (q ∙ ap (λ (z : List Entry). fit_inner (swap z a (pages_in g.pages))) w.holds) u)
 
 -- the free pages suffice for this page, after those below
-pub lodge_room : (m₂ m₁ : Image) (k child a : ℕ) (free : List ℕ) (y : Plan) (g : Placed) → k ≤ y.base → Lodged m₂ k child a free y (Ok g) m₁ → g.used + 2 ≤ length free
-lodge_room m₂ m₁ k child a free y g h t = omega (arith, h, t.1.room, t.2.uses, (writes_law k (contents m₂) child a free).lodges)
+pub lodge_room : (m₂ m₁ : Image) (k child a : ℕ) (free : List ℕ) (y : Plan) (g : Placed) → k ≤ y.base → Lodged m₂ k child a free y (Ok g) m₁ → g.trade.used + 2 ≤ length free
+lodge_room m₂ m₁ k child a free y g h t = omega (arith, h, t.allowed.room, t.gives.uses, (writes_law k (contents m₂) child a free).lodges)

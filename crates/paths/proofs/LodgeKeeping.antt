@@ -80,13 +80,13 @@ lodges_at : (m m' : Image) (limit total top : ℕ) (s : State) (a : ℕ) (r : Re
     → LodgedBy m s.height (root_of s.tree) a s.free r m' → Lodges m s a r m'
 lodges_at m m' limit total top s a (Ok g) k t v =
     let u = update_law (contents m) limit total top s a k.kept in
-    let d = allowed m limit total top s a (length s.free) k.kept v.1 in
-    let w = subst (λ (y : Update). Wrote y.writes (after_reads m s.height) m') u.0 v.3 in
+    let d = allowed m limit total top s a (length s.free) k.kept v.allowed in
+    let w = subst (λ (y : Update). Wrote y.writes (after_reads m s.height) m') u.0 v.wrote in
     let n = accepts_charge (lodge_step s a).writes (after_reads m s.height) w.accepts in
-    let c = v.2 in
+    let c = v.copied in
     record {
       allowed = d;
-      carried = omega (arith, v.0, n, (lodge_copies m limit total top s a k.kept t d).took);
+      carried = omega (arith, v.charged, n, (lodge_copies m limit total top s a k.kept t d).took);
       root = c.root ∙ ap (λ (y : Update). y.next.root) u.0;
       height = c.height ∙ ap (λ (y : Update). y.next.height) u.0;
       used = c.used ∙ ap (λ (y : Update). length y.writes) u.0;
@@ -139,4 +139,4 @@ lodge_keeps_old m m' limit total top s a NoEvent k t d = absurd d
 pub lodge_frees : LodgeFreeLaw
 lodge_frees m m' limit total top s a g k t d =
     let y = lodge_copies m limit total top s a k t d.allowed in
-    y.freed ∙ ap (λ (n : ℕ). path_of s.tree a ++ drop n s.free) (sym (d.used ∙ y.took)) ∙ ap (λ (ps : List ℕ). ps ++ drop g.used s.free) (sym d.path)
+    y.freed ∙ ap (λ (n : ℕ). path_of s.tree a ++ drop n s.free) (sym (d.used ∙ y.took)) ∙ ap (λ (ps : List ℕ). ps ++ drop g.trade.used s.free) (sym d.path)

@@ -35,10 +35,10 @@ first_refused level used p (Some r) es free m m' f h a u =
     (unwrites_less (write_of level p es ∷ []) (write_of level (get_or free (used + 1) 0) (entries r.page.list) ∷ []) m m' f u)
 
 pub placed_one : (level used next p : ℕ) (right : Option RightPage) (es : List Entry) (free : List ℕ) (path : ArrayVec ℕ) (m m' : Image) → next ≡ used + 1 → used + 2 ≤ length free → p ≡ get_or free used 0 → right ≡ None
-    → Wrote (write_of level p es ∷ []) m m' → Places m level (halves_of es right) free used (Ok (record { pages = One p; used = next; path = path })) m'
+    → Wrote (write_of level p es ∷ []) m m' → Places m level (halves_of es right) free used (Ok (record { pages = One p; trade = record { used = next; path = path } })) m'
 placed_one level used next p right es free path m m' i h a e w =
-    subst (λ (x : Option RightPage). Places m level (halves_of es x) free used (Ok (record { pages = One p; used = next; path = path })) m') (sym e)
-    (at_front level used p (get_or free (used + 1) 0) (halves_of es None) free m m' (Ok (record { pages = One p; used = next; path = path })) h a refl
+    subst (λ (x : Option RightPage). Places m level (halves_of es x) free used (Ok (record { pages = One p; trade = record { used = next; path = path } })) m') (sym e)
+    (at_front level used p (get_or free (used + 1) 0) (halves_of es None) free m m' (Ok (record { pages = One p; trade = record { used = next; path = path } })) h a refl
     (record { pages = refl; rest = ap (λ (x : ℕ). drop x free) i ∙ drop_more free (used + 1) 0 (omega arith); uses = i }, w))
 
 pub second_refused : (level used p q : ℕ) (right : Option RightPage) (r : RightPage) (es : List Entry) (free : List ℕ) (m m₁ m' : Image) (f : Fault) → used + 2 ≤ length free
@@ -51,10 +51,10 @@ second_refused level used p q right r es free m m₁ m' f h a b e w u =
 
 pub placed_two : (level used next p q : ℕ) (right : Option RightPage) (r : RightPage) (es : List Entry) (free : List ℕ) (path : ArrayVec ℕ) (m m₁ m' : Image) → next ≡ used + 1 + 1 → used + 2 ≤ length free
     → p ≡ get_or free used 0 → q ≡ get_or free (used + 1) 0 → right ≡ Some r → Wrote (write_of level p es ∷ []) m m₁ → Wrote (write_of level q (entries r.page.list) ∷ []) m₁ m'
-    → Places m level (halves_of es right) free used (Ok (record { pages = Two p r.key q; used = next; path = path })) m'
+    → Places m level (halves_of es right) free used (Ok (record { pages = Two p r.key q; trade = record { used = next; path = path } })) m'
 placed_two level used next p q right r es free path m m₁ m' i h a b e w v =
-    subst (λ (x : Option RightPage). Places m level (halves_of es x) free used (Ok (record { pages = Two p r.key q; used = next; path = path })) m') (sym e)
-    (at_front level used p q (halves_of es (Some r)) free m m' (Ok (record { pages = Two p r.key q; used = next; path = path })) h a b (
+    subst (λ (x : Option RightPage). Places m level (halves_of es x) free used (Ok (record { pages = Two p r.key q; trade = record { used = next; path = path } })) m') (sym e)
+    (at_front level used p q (halves_of es (Some r)) free m m' (Ok (record { pages = Two p r.key q; trade = record { used = next; path = path } })) h a b (
       record { pages = refl; rest = ap (λ (n : ℕ). drop n free) i; uses = omega (arith, i) },
       wrote_more (write_of level p es ∷ []) (write_of level q (entries r.page.list) ∷ []) m m₁ m' w v,
     ))

@@ -48,14 +48,14 @@ root_refused h used p v k w free pages m m' f n e q u =
     at_front h used p v k w free pages m m' (Err f) n e q (subst (λ (x : ℕ). Unwrites (write_of x p (entry k v ∷ (entry 0 w ∷ [])) ∷ []) m f m') s u)
 
 -- one page is the root
-pub root_stays : (h used p : ℕ) (free : List ℕ) (pages : ChildPages) (m : Image) (g : Copied) → pages ≡ One p → g.root ≡ record { page = p; level = h } → g.used ≡ used
+pub root_stays : (h used p : ℕ) (free : List ℕ) (pages : ChildPages) (m : Image) (g : Copied) → pages ≡ One p → g.root ≡ record { page = p; level = h } → g.trade.used ≡ used
     → Roots m h (pages_in pages) free used (Ok g) m
 root_stays h used p free pages m g e r u =
     subst (λ (x : ChildPages). Roots m h (pages_in x) free used (Ok g) m) (sym e)
     (record { root = ap (λ (x : PageRef). x.page) r; height = ap (λ (x : PageRef). x.level) r; uses = omega (arith, u); wrote = wrote_none m m refl })
 
 pub root_made : (h used p v k w : ℕ) (free : List ℕ) (pages : ChildPages) (m m' : Image) (g : Copied) → used + 1 ≤ length free → p ≡ get_or free used 0 → pages ≡ Two v k w
-    → Wrote (write_of (h + 1) p (entry k v ∷ (entry 0 w ∷ [])) ∷ []) m m' → g.root ≡ record { page = p; level = h + 1 } → g.used ≡ used + 1
+    → Wrote (write_of (h + 1) p (entry k v ∷ (entry 0 w ∷ [])) ∷ []) m m' → g.root ≡ record { page = p; level = h + 1 } → g.trade.used ≡ used + 1
     → Roots m h (pages_in pages) free used (Ok g) m'
 root_made h used p v k w free pages m m' g n e q t r u =
     let s : h + 1 ≡ suc h = omega arith in
@@ -138,23 +138,24 @@ root_ends : (h : ℕ) (m m₁ m' : Image) (p a used : ℕ) (free : List ℕ) (r 
     → Allowed (count_under (suc h) (contents m) p a) (lodge_by (suc h) (contents m) p a free).next.height (needed (suc h) (contents m) p a) (length free)
     → used ≡ 0 + length (lodge_at (suc h) (contents m) p a free).writes
     → Wrote (lodge_at (suc h) (contents m) p a free).writes (after_reads m (suc h)) m₁
-    → IfOk r (λ g. IsPath m (suc h) p a g.path.items)
+    → IfOk r (λ g. IsPath m (suc h) p a g.trade.path.items)
     → Rooted (new_root_at (suc h) (lodge_at (suc h) (contents m) p a free).part [] (lodge_at (suc h) (contents m) p a free).rest) (raised_at (lodge_at (suc h) (contents m) p a free).part (suc h)) used m₁ r m'
     → LodgedBy m (suc h) p a free r m'
 root_ends h m m₁ m' p a used free (Ok g) c d q w b v =
     let k : Made (Split ℕ) = lodge_at (suc h) (contents m) p a free in
     let W : List Write = (new_root_at (suc h) k.part [] k.rest).writes in
-    let e : (new_root_at (suc h) k.part k.writes k.rest).writes ≡ k.writes ++ W = new_root_writes (suc h) k.part k.writes k.rest in (
-      c,
-      d,
-      record {
+    let e : (new_root_at (suc h) k.part k.writes k.rest).writes ≡ k.writes ++ W = new_root_writes (suc h) k.part k.writes k.rest in
+    record {
+      charged = c;
+      allowed = d;
+      copied = record {
         root = v.root ∙ sym (new_root_part (suc h) k.part k.writes k.rest);
         height = v.height;
         used = omega (arith, q, v.uses, ap length e, length-append k.writes W);
         path = b;
-      },
-      subst (λ (ws : List Write). Wrote ws (after_reads m (suc h)) m') (sym e) (wrote_more k.writes W (after_reads m (suc h)) m₁ m' w v.wrote),
-    )
+      };
+      wrote = subst (λ (ws : List Write). Wrote ws (after_reads m (suc h)) m') (sym e) (wrote_more k.writes W (after_reads m (suc h)) m₁ m' w v.wrote);
+    }
 root_ends h m m₁ m' p a used free (Err f) c d q w b v =
     let k : Made (Split ℕ) = lodge_at (suc h) (contents m) p a free in
     let W : List Write = (new_root_at (suc h) k.part [] k.rest).writes in
@@ -165,15 +166,15 @@ root_ends h m m₁ m' p a used free (Err f) c d q w b v =
     )
 
 pub tree_roots : (h : ℕ) (m m₁ m' : Image) (p a : ℕ) (free : List ℕ) (g : Placed) (path : ArrayVec ℕ) (r : Result Copied Fault) → 1 ≤ h → h ≤ 6
-    → Lodged m h p a free (record { base = h; extra = 1; height = h + 1 }) (Ok g) m₁ → IsPath m h p a path.items → IfOk r (λ c. c.path ≡ path)
-    → Roots m₁ h (pages_in g.pages) free g.used r m' → LodgedBy m h p a free r m'
+    → Lodged m h p a free (record { base = h; extra = 1; height = h + 1 }) (Ok g) m₁ → IsPath m h p a path.items → IfOk r (λ c. c.trade.path ≡ path)
+    → Roots m₁ h (pages_in g.pages) free g.trade.used r m' → LodgedBy m h p a free r m'
 tree_roots zero m m₁ m' p a free g path r o l t b i u = absurd (omega arith)
 tree_roots (suc h) m m₁ m' p a free g path r o l t b i u =
     let k : Made (Split ℕ) = lodge_at (suc h) (contents m) p a free in
-    let v : Rooted (new_root_at (suc h) k.part [] k.rest) (raised_at k.part (suc h)) g.used m₁ r m' =
-    subst (λ (x : List ℕ). Rooted (new_root_at (suc h) k.part [] x) (raised_at k.part (suc h)) g.used m₁ r m') t.2.rest
-    (subst (λ (x : Split ℕ). Rooted (new_root_at (suc h) x [] (drop g.used free)) (raised_at x (suc h)) g.used m₁ r m') t.2.pages u) in
-    root_ends h m m₁ m' p a g.used free r t.0 (root_allowed h (length free) (contents m) p a free l t.1) t.2.uses t.3 (same_path (λ (c : Copied). c.path) m (suc h) p a path r b i) v
+    let v : Rooted (new_root_at (suc h) k.part [] k.rest) (raised_at k.part (suc h)) g.trade.used m₁ r m' =
+    subst (λ (x : List ℕ). Rooted (new_root_at (suc h) k.part [] x) (raised_at k.part (suc h)) g.trade.used m₁ r m') t.gives.rest
+    (subst (λ (x : Split ℕ). Rooted (new_root_at (suc h) x [] (drop g.trade.used free)) (raised_at x (suc h)) g.trade.used m₁ r m') t.gives.pages u) in
+    root_ends h m m₁ m' p a g.trade.used free r t.charged (root_allowed h (length free) (contents m) p a free l t.allowed) t.gives.uses t.wrote (same_path (λ (c : Copied). c.trade.path) m (suc h) p a path r b i) v
 
 -- the first page of all
 first_allowed : (m : Image) (p a : ℕ) (free : List ℕ) → 7 ≤ length free → Allowed (count_under 0 (contents m) p a) 1 1 (length free)
@@ -195,15 +196,15 @@ first_refused m m' p a q n (x ∷ xs) f e l z u =
     )
 
 pub first_made : (m m' : Image) (p a q n next : ℕ) (free : List ℕ) (path : ArrayVec ℕ) → next ≡ 1 → path.items ≡ [] → n ≡ length free → 7 ≤ n → q ≡ get_or free 0 0
-    → Wrote (write_of 1 q (entry a 1 ∷ []) ∷ []) m m' → LodgedBy m 0 p a free (Ok (record { root = record { page = q; level = 1 }; used = next; path = path })) m'
+    → Wrote (write_of 1 q (entry a 1 ∷ []) ∷ []) m m' → LodgedBy m 0 p a free (Ok (record { root = record { page = q; level = 1 }; trade = record { used = next; path = path } })) m'
 unfolding path_at
 first_made m m' p a q n next [] path i b e l z w = absurd (omega (arith, e, l))
-first_made m m' p a q n next (x ∷ xs) path i b e l z w = (
-  omega arith,
-  first_allowed m p a (x ∷ xs) (omega (arith, e, l)),
-  record { root = z; height = refl; used = i; path = ap reverse b },
-  subst (λ (y : ℕ). Wrote (write_of 1 y (entry a 1 ∷ []) ∷ []) (after_reads m 0) m') z (subst (λ (y : Image). Wrote (write_of 1 q (entry a 1 ∷ []) ∷ []) y m') (after_none m) w),
-)
+first_made m m' p a q n next (x ∷ xs) path i b e l z w = record {
+  charged = omega arith;
+  allowed = first_allowed m p a (x ∷ xs) (omega (arith, e, l));
+  copied = record { root = z; height = refl; used = i; path = ap reverse b };
+  wrote = subst (λ (y : ℕ). Wrote (write_of 1 y (entry a 1 ∷ []) ∷ []) (after_reads m 0) m') z (subst (λ (y : Image). Wrote (write_of 1 q (entry a 1 ∷ []) ∷ []) y m') (after_none m) w);
+}
 
 never_misread : (m m' : Image) (p a : ℕ) (f : Fault) → Misread m 0 p a f m' → ⊥
 never_misread m m' p a f (refused d x e s k r i) = omega (arith, s.within)
@@ -212,7 +213,7 @@ never_misread m m' p a f (broken d q v r e s k b i) = omega (arith, s.within)
 -- an empty tree has no root to read
 any_root : (m m' : Image) (p a : ℕ) (free : List ℕ) (r : Result Copied Fault) → LodgedBy m 0 0 a free r m' → LodgedBy m 0 p a free r m'
 unfolding leaf_at path_at
-any_root m m' p a free (Ok g) t = t
+any_root m m' p a free (Ok g) t = record { charged = t.charged; allowed = t.allowed; copied = t.copied; wrote = t.wrote }
 any_root m m' p a free (Err f) (inl t) = absurd (never_misread m m' 0 a f t)
 any_root m m' p a free (Err f) (inr t) = inr t
 

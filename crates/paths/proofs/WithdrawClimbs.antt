@@ -109,16 +109,16 @@ joins m m₁ m' h p a free used (Err f) c n q w v =
 -- the child's pages are written, and then this one's
 climbs : (m m₁ m' : Image) (h p a : ℕ) (free : List ℕ) (g : Left) (r : Result Left Fault) → 0 < m.charge
     → Done (spent m) (suc h) (pick (contents m p).entries a) a free g m₁
-    → PlacesLeft m₁ (suc (suc h)) (clear (contents m p).entries a (left_of g.page)) free g.used r m'
+    → PlacesLeft m₁ (suc (suc h)) (clear (contents m p).entries a (left_of g.page)) free g.trade.used r m'
     → Withdrawn m (suc (suc h)) p a free r m'
 climbs m m₁ m' h p a free g r c t u =
     let es : List Entry = (contents m p).entries in
     let k : Made (Held ℕ) = withdraw_at (suc h) (contents m) (pick es a) a free in
     let w : Wrote k.writes (after_reads m (suc (suc h))) m₁ = subst (λ (x : Image). Wrote k.writes x m₁) (after_more m (suc h)) t.wrote in
-    let v : Placed (place_left_at (suc (suc h)) (clear es a k.part) [] k.rest) free g.used m₁ r m' =
-    subst (λ (x : List ℕ). Placed (place_left_at (suc (suc h)) (clear es a k.part) [] x) free g.used m₁ r m') t.gives.rest
-    (subst (λ (x : Held ℕ). Placed (place_left_at (suc (suc h)) (clear es a x) [] (drop g.used free)) free g.used m₁ r m') t.gives.part u) in
-    joins m m₁ m' h p a free g.used r (omega (arith, t.charged)) t.event t.gives.uses w v
+    let v : Placed (place_left_at (suc (suc h)) (clear es a k.part) [] k.rest) free g.trade.used m₁ r m' =
+    subst (λ (x : List ℕ). Placed (place_left_at (suc (suc h)) (clear es a k.part) [] x) free g.trade.used m₁ r m') t.gives.rest
+    (subst (λ (x : Held ℕ). Placed (place_left_at (suc (suc h)) (clear es a x) [] (drop g.trade.used free)) free g.trade.used m₁ r m') t.gives.part u) in
+    joins m m₁ m' h p a free g.trade.used r (omega (arith, t.charged)) t.event t.gives.uses w v
 
 pub inner_fails : (l k : ℕ) (m m₂ m' : Image) (p a child : ℕ) (free : List ℕ) (es : List Entry) (f : Fault) → Goes m m₂ l k p a child es
     → Refusal m₂ k child a free f m' → Refusal m l p a free f m'
@@ -128,13 +128,13 @@ inner_fails (suc (suc h)) k m m₂ m' p a child free es f w t =
     fails m m' h p a free f w.charged (at_child (λ x y z. Refusal x y z a free f m') m m₂ h k p a child es w t) (misread_up m m' h p a f w.charged (subst (λ (x : List Entry). length x ≤ 10) w.holds w.few))
 
 pub inner_climbs : (l k : ℕ) (m m₂ m₁ m' : Image) (p a child : ℕ) (free : List ℕ) (es ds : List Entry) (g : Left) (r : Result Left Fault) → Goes m m₂ l k p a child es
-    → Done m₂ k child a free g m₁ → ds ≡ clear es a (left_of g.page) → PlacesLeft m₁ l ds free g.used r m' → Withdrawn m l p a free r m'
+    → Done m₂ k child a free g m₁ → ds ≡ clear es a (left_of g.page) → PlacesLeft m₁ l ds free g.trade.used r m' → Withdrawn m l p a free r m'
 inner_climbs zero k m m₂ m₁ m' p a child free es ds g r w t e u = absurd (omega (arith, w.inner))
 inner_climbs (suc zero) k m m₂ m₁ m' p a child free es ds g r w t e u = absurd (omega (arith, w.inner))
 inner_climbs (suc (suc h)) k m m₂ m₁ m' p a child free es ds g r w t e u =
     climbs m m₁ m' h p a free g r w.charged (at_child (λ x y z. Done x y z a free g m₁) m m₂ h k p a child es w t)
-    (subst (λ (x : List Entry). PlacesLeft m₁ (suc (suc h)) x free g.used r m') (e ∙ ap (λ (x : List Entry). clear x a (left_of g.page)) w.holds) u)
+    (subst (λ (x : List Entry). PlacesLeft m₁ (suc (suc h)) x free g.trade.used r m') (e ∙ ap (λ (x : List Entry). clear x a (left_of g.page)) w.holds) u)
 
 -- the pages used below are at most one for each level
-pub used_below : (m m₁ : Image) (k p a : ℕ) (free : List ℕ) (g : Left) → Done m k p a free g m₁ → g.used ≤ k
+pub used_below : (m m₁ : Image) (k p a : ℕ) (free : List ℕ) (g : Left) → Done m k p a free g m₁ → g.trade.used ≤ k
 used_below m m₁ k p a free g t = omega (arith, t.gives.uses, (writes_law k (contents m) p a free).withdraws)

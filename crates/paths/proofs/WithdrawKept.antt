@@ -44,7 +44,7 @@ empty_none m p a free = no_event refl (omega arith) refl (after_none m)
 pub empty_refused : (m : Image) (h p a : ℕ) (free : List ℕ) → h ≡ 0 → Withdrew m h p a free (Err NoEvent) m
 empty_refused m h p a free e = subst (λ (x : ℕ). Withdrew m x p a free (Err NoEvent) m) (sym e) (refusal (omega arith, omega arith) (empty_none m p a free))
 
-pub root_copied : (m m' : Image) (h p a : ℕ) (free : List ℕ) (g : Left) (c : Copied) → RoomFor h free → 1 ≤ h → Done m h p a free g m' → IsPath m h p a g.path.items → c ≡ copied_of g h → Withdrew m h p a free (Ok c) m'
+pub root_copied : (m m' : Image) (h p a : ℕ) (free : List ℕ) (g : Left) (c : Copied) → RoomFor h free → 1 ≤ h → Done m h p a free g m' → IsPath m h p a g.trade.path.items → c ≡ copied_of g h → Withdrew m h p a free (Ok c) m'
 root_copied m m' zero p a free g c b o t w e = absurd (omega arith)
 root_copied m m' (suc h) p a free g c b o t w e =
     subst (λ (x : Copied). CopiesLeft m (suc h) p a free x m') (sym e) (record {
@@ -160,7 +160,7 @@ pub withdraw_frees : WithdrawFreeLaw
 withdraw_frees m m' limit total top s a g k six t =
     let y = (withdraw_law (contents m) limit total top s a k six t.event).2 in
     y.freed ∙ ap (λ (n : ℕ). path_of s.tree a ++ drop n s.free) (sym (t.used ∙ y.took))
-    ∙ ap (λ (ps : List ℕ). ps ++ drop g.used s.free) (sym t.path)
+    ∙ ap (λ (ps : List ℕ). ps ++ drop g.trade.used s.free) (sym t.path)
 
 pub withdraw_is : (m m' : Image) (root height a : ℕ) (free : List ℕ) (r : Result Copied Fault) → Withdrew m height root a free r m' → WithdrawIs m root height a free r m'
 withdraw_is m m' root height a free r t = record {

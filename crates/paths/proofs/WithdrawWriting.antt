@@ -15,9 +15,9 @@ is_empty : (es : List Entry) (n : ℕ) → n ≡ length es → n ≡ 0 → es �
 is_empty [] n e z = refl
 is_empty (x ∷ es) n e z = absurd (omega arith)
 
-pub none_left : (level used n : ℕ) (es : List Entry) (free : List ℕ) (path : ArrayVec ℕ) (m : Image) → n ≡ length es → n ≡ 0 → PlacesLeft m level es free used (Ok (record { page = None; used = used; path = path })) m
+pub none_left : (level used n : ℕ) (es : List Entry) (free : List ℕ) (path : ArrayVec ℕ) (m : Image) → n ≡ length es → n ≡ 0 → PlacesLeft m level es free used (Ok (record { page = None; trade = record { used = used; path = path } })) m
 none_left level used n es free path m e z =
-    subst (λ (x : List Entry). PlacesLeft m level x free used (Ok (record { page = None; used = used; path = path })) m) (sym (is_empty es n e z))
+    subst (λ (x : List Entry). PlacesLeft m level x free used (Ok (record { page = None; trade = record { used = used; path = path } })) m) (sym (is_empty es n e z))
     (record { part = refl; rest = refl; uses = omega arith }, wrote_none m m refl)
 
 -- from a free list with a page in front
@@ -28,10 +28,10 @@ at_front level used p e es free m m' r h q t =
     subst (λ (z : List ℕ). Placed (place_left_at level (e ∷ es) [] z) free used m r m') (sym d) t
 
 pub left_written : (level used next p n : ℕ) (es : List Entry) (free : List ℕ) (path : ArrayVec ℕ) (m m' : Image) → next ≡ used + 1 → n ≡ length es → (n ≡ 0 → ⊥) → used < length free → p ≡ get_or free used 0
-    → WritesPage m level p es (Ok tt) m' → PlacesLeft m level es free used (Ok (record { page = Some p; used = next; path = path })) m'
+    → WritesPage m level p es (Ok tt) m' → PlacesLeft m level es free used (Ok (record { page = Some p; trade = record { used = next; path = path } })) m'
 left_written level used next p n [] free path m m' u k some h q w = absurd (some k)
 left_written level used next p n (e ∷ es) free path m m' u k some h q w =
-    at_front level used p e es free m m' (Ok (record { page = Some p; used = next; path = path })) h q (record { part = refl; rest = ap (λ (x : ℕ). drop x free) u; uses = u }, w)
+    at_front level used p e es free m m' (Ok (record { page = Some p; trade = record { used = next; path = path } })) h q (record { part = refl; rest = ap (λ (x : ℕ). drop x free) u; uses = u }, w)
 
 pub left_refused : (level used p n : ℕ) (es : List Entry) (free : List ℕ) (m m' : Image) (f : Fault) → n ≡ length es → (n ≡ 0 → ⊥) → used < length free → p ≡ get_or free used 0
     → WritesPage m level p es (Err f) m' → PlacesLeft m level es free used (Err f) m'

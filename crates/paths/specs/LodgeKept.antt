@@ -31,8 +31,8 @@ pub record LodgeDone (m : Image) (s : State) (a : ℕ) (g : Copied) (m' : Image)
   pub carried : s.height + lodge_needs s a ≤ m.charge
   pub root : g.root.page ≡ root_of (lodge_step s a).next.tree
   pub height : g.root.level ≡ (lodge_step s a).next.height
-  pub used : g.used ≡ length (lodge_step s a).writes
-  pub path : reverse g.path.items ≡ path_of s.tree a
+  pub used : g.trade.used ≡ length (lodge_step s a).writes
+  pub path : reverse g.trade.path.items ≡ path_of s.tree a
   pub wrote : Wrote (lodge_step s a).writes (after_reads m s.height) m'
 
 -- The answers in the order of the questions: the path is read (9), the count is below 65,535 (14), the height stays at most 6 (15),
@@ -69,7 +69,7 @@ LodgeNextLaw = (m m' : Image) (limit total top : ℕ) (s : State) (a : ℕ) (g :
 -- its free list is the old path, the root first, before what is left of the old free list
 abbrev pub LodgeFreeLaw : Type 0
 LodgeFreeLaw = (m m' : Image) (limit total top : ℕ) (s : State) (a : ℕ) (g : Copied) → Kept (contents m) limit total top s → a ≤ top → Lodges m s a (Ok g) m'
-    → (lodge_step s a).next.free ≡ reverse g.path.items ++ drop g.used s.free
+    → (lodge_step s a).next.free ≡ reverse g.trade.path.items ++ drop g.trade.used s.free
 
 -- where it is refused, the state is kept as it was
 abbrev pub LodgeRefusedLaw : Type 0

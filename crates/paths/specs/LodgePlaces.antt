@@ -36,8 +36,8 @@ as_tree (page.two x k y) = two x k y
 -- the code gives what the theory makes, from the free pages of which `used` were used before
 pub record Gives (made : Made (Split ℕ)) (free : List ℕ) (used : ℕ) (g : Placed) : Type 0 where
   pub pages : pages_in g.pages ≡ made.part
-  pub rest : drop g.used free ≡ made.rest
-  pub uses : g.used ≡ used + length made.writes
+  pub rest : drop g.trade.used free ≡ made.rest
+  pub uses : g.trade.used ≡ used + length made.writes
 
 abbrev pub PlacedBy : Made (Split ℕ) → List ℕ → ℕ → Image → Result Placed Fault → Image → Type 0
 PlacedBy made free used m (Ok g) m' = Gives made free used g × Wrote made.writes m m'

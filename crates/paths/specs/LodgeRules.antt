@@ -53,11 +53,14 @@ leaf_takes n x = x.base + over_ten n + if_splits (over_ten n) x.extra
 abbrev pub leaf_height : ℕ → Plan → ℕ
 leaf_height n x = if_splits (over_ten n) x.height
 
--- at a leaf that was read
+-- at a leaf that was read: the questions are answered yes, and its new pages are written
+pub record LeafDone (m : Image) (es : List Entry) (a : ℕ) (free : List ℕ) (x : Plan) (g : Placed) (m' : Image) : Type 0 where
+  pub allowed : Allowed (counted (found a es)) (leaf_height (length (enter a es)) x) (leaf_takes (length (enter a es)) x) (length free)
+  pub gives : Gives (place_at 1 (fit_leaf (enter a es)) [] free) free 0 g
+  pub wrote : Wrote (place_at 1 (fit_leaf (enter a es)) [] free).writes m m'
+
 abbrev pub Leafed : Image → List Entry → ℕ → List ℕ → Plan → Result Placed Fault → Image → Type 0
-Leafed m es a free x (Ok g) m' =
-    Allowed (counted (found a es)) (leaf_height (length (enter a es)) x) (leaf_takes (length (enter a es)) x) (length free)
-    × Gives (place_at 1 (fit_leaf (enter a es)) [] free) free 0 g × Wrote (place_at 1 (fit_leaf (enter a es)) [] free).writes m m'
+Leafed m es a free x (Ok g) m' = LeafDone m es a free x g m'
 Leafed m es a free x (Err f) m' =
     Unlodged m (counted (found a es)) (leaf_height (length (enter a es)) x) (leaf_takes (length (enter a es)) x) (length free)
     (place_at 1 (fit_leaf (enter a es)) [] free).writes f m'
@@ -73,10 +76,14 @@ abbrev pub takes_under : ℕ → Contents → ℕ → ℕ → Plan → ℕ
 takes_under l m p a x = takes l m p a x.base x.extra
 
 -- lodge at that page: after l reads, its path's new pages
+pub record PageDone (m : Image) (l p a : ℕ) (free : List ℕ) (x : Plan) (g : Placed) (m' : Image) : Type 0 where
+  pub charged : l ≤ m.charge
+  pub allowed : Allowed (count_under l (contents m) p a) (height_under l (contents m) p a x) (takes_under l (contents m) p a x) (length free)
+  pub gives : Gives (lodge_at l (contents m) p a free) free 0 g
+  pub wrote : Wrote (lodge_at l (contents m) p a free).writes (after_reads m l) m'
+
 abbrev pub Lodged : Image → ℕ → ℕ → ℕ → List ℕ → Plan → Result Placed Fault → Image → Type 0
-Lodged m l p a free x (Ok g) m' =
-    (l ≤ m.charge) × Allowed (count_under l (contents m) p a) (height_under l (contents m) p a x) (takes_under l (contents m) p a x) (length free)
-    × Gives (lodge_at l (contents m) p a free) free 0 g × Wrote (lodge_at l (contents m) p a free).writes (after_reads m l) m'
+Lodged m l p a free x (Ok g) m' = PageDone m l p a free x g m'
 Lodged m l p a free x (Err f) m' =
     Misread m l p a f m'
     ⊎ ((l ≤ m.charge) × Unlodged (after_reads m l) (count_under l (contents m) p a) (height_under l (contents m) p a x) (takes_under l (contents m) p a x) (length free)

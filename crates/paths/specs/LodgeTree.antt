@@ -15,7 +15,7 @@ use Rattle.paths.specs.LodgeRules.{Allowed, Unlodged, count_under}
 pub record RootIs (made : Made ℕ) (high used : ℕ) (m : Image) (g : Copied) (m' : Image) : Type 0 where
   pub root : g.root.page ≡ made.part
   pub height : g.root.level ≡ high
-  pub uses : g.used ≡ used + length made.writes
+  pub uses : g.trade.used ≡ used + length made.writes
   pub wrote : Wrote made.writes m m'
 
 abbrev pub Rooted : Made ℕ → ℕ → ℕ → Image → Result Copied Fault → Image → Type 0
@@ -25,17 +25,22 @@ Rooted made height used m (Err f) m' = Unwrites made.writes m f m'
 abbrev pub Roots : Image → ℕ → Split ℕ → List ℕ → ℕ → Result Copied Fault → Image → Type 0
 Roots m h s free used r m' = Rooted (new_root_at h s [] (drop used free)) (raised_at s h) used m r m'
 
--- the code's copy of the path of a tree of height h is the theory's
-pub record CopiedTo (u : Update) (old : List ℕ) (h : ℕ) (g : Copied) : Type 0 where
+-- the code's copy of a tree's path is the theory's
+pub record CopiedTo (u : Update) (old : List ℕ) (g : Copied) : Type 0 where
   pub root : g.root.page ≡ u.next.root
   pub height : g.root.level ≡ u.next.height
-  pub used : g.used ≡ length u.writes
-  pub path : reverse g.path.items ≡ old
+  pub used : g.trade.used ≡ length u.writes
+  pub path : reverse g.trade.path.items ≡ old
+
+-- and all its pages are written
+pub record TreeDone (m : Image) (h p a : ℕ) (free : List ℕ) (g : Copied) (m' : Image) : Type 0 where
+  pub charged : h ≤ m.charge
+  pub allowed : Allowed (count_under h (contents m) p a) (lodge_by h (contents m) p a free).next.height (needed h (contents m) p a) (length free)
+  pub copied : CopiedTo (lodge_by h (contents m) p a free) (path_at h (contents m) p a) g
+  pub wrote : Wrote (lodge_by h (contents m) p a free).writes (after_reads m h) m'
 
 abbrev pub LodgedBy : Image → ℕ → ℕ → ℕ → List ℕ → Result Copied Fault → Image → Type 0
-LodgedBy m h p a free (Ok g) m' =
-    (h ≤ m.charge) × Allowed (count_under h (contents m) p a) (lodge_by h (contents m) p a free).next.height (needed h (contents m) p a) (length free)
-    × CopiedTo (lodge_by h (contents m) p a free) (path_at h (contents m) p a) h g × Wrote (lodge_by h (contents m) p a free).writes (after_reads m h) m'
+LodgedBy m h p a free (Ok g) m' = TreeDone m h p a free g m'
 LodgedBy m h p a free (Err f) m' =
     Misread m h p a f m'
     ⊎ ((h ≤ m.charge) × Unlodged (after_reads m h) (count_under h (contents m) p a) (lodge_by h (contents m) p a free).next.height (needed h (contents m) p a) (length free)

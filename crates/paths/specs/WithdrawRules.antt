@@ -20,7 +20,7 @@ use Rattle.paths.specs.Withdrawals.{Refusal}
 
 -- what is left of the root, as an answer: where nothing is left the tree is empty
 abbrev pub copied_of : Left → ℕ → Copied
-copied_of g h = record { root = record { page = root_left (left_of g.page); level = height_at (left_of g.page) h }; used = g.used; path = g.path }
+copied_of g h = record { root = record { page = root_left (left_of g.page); level = height_at (left_of g.page) h }; trade = g.trade }
 
 -- a path that can be copied: at most six pages, and as many are free
 abbrev pub RoomFor : ℕ → List ℕ → Type 0
@@ -33,8 +33,8 @@ pub record CopiesLeft (m : Image) (h p a : ℕ) (free : List ℕ) (g : Copied) (
   pub event : found a (leaf_at h (contents m) p a) ≡ None → ⊥
   pub root : g.root.page ≡ (withdraw_by h (contents m) p a free).next.root
   pub height : g.root.level ≡ (withdraw_by h (contents m) p a free).next.height
-  pub used : g.used ≡ length (withdraw_by h (contents m) p a free).writes
-  pub path : IsPath m h p a g.path.items
+  pub used : g.trade.used ≡ length (withdraw_by h (contents m) p a free).writes
+  pub path : IsPath m h p a g.trade.path.items
   pub wrote : Wrote (withdraw_by h (contents m) p a free).writes (after_reads m h) m'
 
 -- or there is no room, and nothing is read; or the reading, the leaf or a write refuses
@@ -56,8 +56,8 @@ pub record WithdrawDone (m : Image) (s : State) (a : ℕ) (g : Copied) (m' : Ima
   pub carried : s.height + length (withdraw_step s a).writes ≤ m.charge
   pub root : g.root.page ≡ root_of (withdraw_step s a).next.tree
   pub height : g.root.level ≡ (withdraw_step s a).next.height
-  pub used : g.used ≡ length (withdraw_step s a).writes
-  pub path : reverse g.path.items ≡ path_of s.tree a
+  pub used : g.trade.used ≡ length (withdraw_step s a).writes
+  pub path : reverse g.trade.path.items ≡ path_of s.tree a
   pub wrote : Wrote (withdraw_step s a).writes (after_reads m s.height) m'
 
 -- Where a state is kept, the answers in the order of the questions: the path is read (9), the point has an event (13), the pages are
@@ -92,7 +92,7 @@ WithdrawNextLaw = (m m' : Image) (limit total top : ℕ) (s : State) (a : ℕ) (
 -- its free list is the old path, the root first, before what is left of the old free list
 abbrev pub WithdrawFreeLaw : Type 0
 WithdrawFreeLaw = (m m' : Image) (limit total top : ℕ) (s : State) (a : ℕ) (g : Copied) → Kept (contents m) limit total top s → s.height ≤ 6
-    → Withdraws m s a (Ok g) m' → (withdraw_step s a).next.free ≡ reverse g.path.items ++ drop g.used s.free
+    → Withdraws m s a (Ok g) m' → (withdraw_step s a).next.free ≡ reverse g.trade.path.items ++ drop g.trade.used s.free
 
 -- where it is refused, the state is kept as it was
 abbrev pub WithdrawRefusedLaw : Type 0

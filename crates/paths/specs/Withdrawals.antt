@@ -17,8 +17,8 @@ use Rattle.paths.specs.PathsReading.{Misread}
 -- what the code gives is what is made of the free pages `free`, of which `used` were used before
 pub record Gives (made : Made (Held ℕ)) (free : List ℕ) (used : ℕ) (g : Left) : Type 0 where
   pub part : left_of g.page ≡ made.part
-  pub rest : drop g.used free ≡ made.rest
-  pub uses : g.used ≡ used + length made.writes
+  pub rest : drop g.trade.used free ≡ made.rest
+  pub uses : g.trade.used ≡ used + length made.writes
 
 -- one page written to the next free page, or none where no entry is left
 abbrev pub Placed : Made (Held ℕ) → List ℕ → ℕ → Image → Result Left Fault → Image → Type 0

@@ -3,15 +3,14 @@ ghost use Rattle.std.specs.Prelude.{◌≡◌};
 ghost use Rattle.paths.specs.WithdrawRules.{copied_of};
 
 use crate::copied::Copied;
-use arrayvec::ArrayVec;
+use crate::trade::Trade;
 use layout::page_ref::{EMPTY, PageRef};
 
-// Its new page, or none; how many of the free pages are used; and the old pages from the leaf to it.
+// Its new page, or none; and the trade so far.
 #[derive(Drop, PartialEq, Eq, Debug)]
 pub struct Left {
     pub page: Option<u16>,
-    pub used: usize,
-    pub path: ArrayVec<u16, 6>,
+    pub trade: Trade,
 }
 
 impl Left {
@@ -19,7 +18,7 @@ impl Left {
     pub(crate) fn copied(self, height: u8) -> Copied
         ensures { result ≡ copied_of self height }
     {
-        let Left { page, used, path } = self;
+        let Left { page, trade } = self;
         let root = page.map_or(
             EMPTY,
             |page| PageRef {
@@ -27,6 +26,6 @@ impl Left {
                 level: height,
             },
         );
-        Copied { root, used, path }
+        Copied { root, trade }
     }
 }

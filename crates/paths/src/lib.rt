@@ -11,7 +11,7 @@ mod page_entries;
 mod place;
 mod plan;
 mod step;
-mod taken;
 pub mod tally;
+pub mod trade;
 pub mod withdraw;
 mod withdraw_edits;

@@ -15,7 +15,7 @@ use crate::page_entries::PageEntries;
 use crate::place::{Placed, place};
 use crate::plan::Plan;
 use crate::step::Step;
-use crate::taken::Taken;
+use crate::trade::Trade;
 use faults::fault::Fault;
 use layout::change::ChildPages;
 use layout::entry::Entry;
@@ -29,18 +29,19 @@ fn lodge_leaf<S: PageStore>(
     page: PageEntries,
     address: u64,
     plan: Plan,
-    taken: Taken,
+    free: &FreeList,
+    trade: Trade,
 ) -> Result<Placed, Fault>
-    requires { taken.used ≡ 0 }
-    ensures leafs { Leafed (S.meaning store.old) (entries page.list) address (numbers taken.entry.free.now) plan result (S.meaning store.new) }
-    ensures path { IfOk result (λ g. g.path ≡ taken.entry.path) }
+    requires { trade.used ≡ 0 }
+    ensures leafs { Leafed (S.meaning store.old) (entries page.list) address (numbers free.now) plan result (S.meaning store.new) }
+    ensures path { IfOk result (λ g. g.trade.path ≡ trade.path) }
 {
     if page.count(address) >= 65535 {
         return Err(Fault::CountFull);
     }
     let list = page.entered(address);
-    plan.ask(list.len(), taken.free.len())?;
-    place(store, 1, Halves::of_leaf(list), taken)
+    plan.ask(list.len(), free.len())?;
+    place(store, 1, Halves::of_leaf(list), free, trade)
 }
 
 // Lodge at a page of a path.
@@ -54,25 +55,21 @@ fn lodge_at<S: PageStore>(
     requires low { step.at.level ≤ plan.base }
     requires few { plan.extra + step.at.level ≤ 255 }
     ensures lodges { Lodged (S.meaning store.old) step.at.level step.at.page address (numbers free.now) plan result (S.meaning store.new) }
-    ensures path { IfOk result (λ g. IsPath (S.meaning store.old) step.at.level step.at.page address g.path.items) }
+    ensures path { IfOk result (λ g. IsPath (S.meaning store.old) step.at.level step.at.page address g.trade.path.items) }
 {
     let page = read_page(store, step.at)?;
     if step.at.level == 1 {
-        let taken = Taken::none(free).with_old(step.at.page);
-        return lodge_leaf(store, page, address, plan, taken);
+        let trade = Trade::default().with_old(step.at.page);
+        return lodge_leaf(store, page, address, plan, free, trade);
     }
     let child = Step {
         at: page.child(step.at, address),
     };
     let deep = plan.below(page.list.len());
-    let Placed { pages, used, path } = lodge_at(store, child, address, deep, free)?;
-    let taken = Taken { free, used, path }.with_old(step.at.page);
-    place(
-        store,
-        step.at.level,
-        page.renew_child(address, pages),
-        taken,
-    )
+    let Placed { pages, trade } = lodge_at(store, child, address, deep, free)?;
+    let halves = page.renew_child(address, pages);
+    let trade = trade.with_old(step.at.page);
+    place(store, step.at.level, halves, free, trade)
 }
 
 // A new root over the two pages of a root that was split.
@@ -80,11 +77,12 @@ fn new_root<S: PageStore>(
     store: &mut S,
     old: Step,
     pages: ChildPages,
-    mut taken: Taken,
+    free: &FreeList,
+    mut trade: Trade,
 ) -> Result<Copied, Fault>
-    requires { taken.used + 1 ≤ length (numbers taken.free.now) }
-    ensures roots { Roots (S.meaning store.old) old.at.level (pages_in pages) (numbers taken.entry.free.now) taken.entry.used result (S.meaning store.new) }
-    ensures path { IfOk result (λ g. g.path ≡ taken.entry.path) }
+    requires { trade.used + 1 ≤ length (numbers free.now) }
+    ensures roots { Roots (S.meaning store.old) old.at.level (pages_in pages) (numbers free.now) trade.used result (S.meaning store.new) }
+    ensures path { IfOk result (λ g. g.trade.path ≡ trade.path) }
 {
     let root = match pages {
         ChildPages::One(page) => PageRef {
@@ -93,7 +91,7 @@ fn new_root<S: PageStore>(
         },
         ChildPages::Two(left, key, right) => {
             let root = PageRef {
-                page: taken.next(),
+                page: trade.next_page(free),
                 level: old.at.level + 1,
             };
             let items = [
@@ -107,27 +105,19 @@ fn new_root<S: PageStore>(
             root
         }
     };
-    Ok(Copied {
-        root,
-        used: taken.used,
-        path: taken.path,
-    })
+    Ok(Copied { root, trade })
 }
 
 // The first leaf of an empty tree.
-fn first_leaf<S: PageStore>(
-    store: &mut S,
-    address: u64,
-    free: &FreeList,
-) -> Result<Copied, Fault>
+fn first_leaf<S: PageStore>(store: &mut S, address: u64, free: &FreeList) -> Result<Copied, Fault>
     ensures { LodgedBy (S.meaning store.old) 0 0 address (numbers free.now) result (S.meaning store.new) }
 {
     if free.len() < 7 {
         return Err(Fault::Room);
     }
-    let mut taken = Taken::none(free);
+    let mut trade = Trade::default();
     let root = PageRef {
-        page: taken.next(),
+        page: trade.next_page(free),
         level: 1,
     };
     write_items(
@@ -138,11 +128,7 @@ fn first_leaf<S: PageStore>(
             value: 1,
         }],
     )?;
-    Ok(Copied {
-        root,
-        used: taken.used,
-        path: taken.path,
-    })
+    Ok(Copied { root, trade })
 }
 
 // Lodges one event at an address in the tree under this root: writes its new pages to the front of the free pages, leaf
@@ -168,8 +154,8 @@ pub fn lodge<S: PageStore>(
         height: root.level + 1,
     };
     let step = Step { at: root };
-    let Placed { pages, used, path } = lodge_at(store, step, address, plan, free)?;
-    new_root(store, step, pages, Taken { free, used, path })
+    let Placed { pages, trade } = lodge_at(store, step, address, plan, free)?;
+    new_root(store, step, pages, free, trade)
 }
 
 // After a lodge the new tree is kept in the store, and its free list is the old path before the pages that are left; after a

@@ -5,19 +5,18 @@ ghost use Rattle.paths.specs.LodgePlaces.{parts_of, Places};
 
 use crate::halves::Halves;
 use crate::page::write_entries;
-use crate::taken::Taken;
-use arrayvec::ArrayVec;
+use crate::trade::Trade;
 use faults::fault::Fault;
 use layout::change::ChildPages;
 use layout::page_ref::PageRef;
 use pages::store::PageStore;
+use records::free::FreeList;
 
-// What stands in a page's place; how many of the free pages are used so far; and the old pages from the leaf to this one.
+// What stands in a page's place, and the trade so far.
 #[derive(Drop)]
 pub struct Placed {
     pub pages: ChildPages,
-    pub used: usize,
-    pub path: ArrayVec<u16, 6>,
+    pub trade: Trade,
 }
 
 // Writes one page, or two where it was split, the left one first.
@@ -25,23 +24,23 @@ pub(crate) fn place<S: PageStore>(
     store: &mut S,
     level: u8,
     halves: Halves,
-    mut taken: Taken,
+    free: &FreeList,
+    mut trade: Trade,
 ) -> Result<Placed, Fault>
-    requires { taken.used + 2 ≤ length (numbers taken.free.now) }
-    ensures places { Places (S.meaning store.old) level (parts_of halves) (numbers taken.entry.free.now) taken.entry.used result (S.meaning store.new) }
-    ensures path { IfOk result (λ g. g.path ≡ taken.entry.path) }
+    requires { trade.used + 2 ≤ length (numbers free.now) }
+    ensures places { Places (S.meaning store.old) level (parts_of halves) (numbers free.now) trade.used result (S.meaning store.new) }
+    ensures path { IfOk result (λ g. g.trade.path ≡ trade.path) }
 {
     let Halves { left, right } = halves;
-    let first = taken.next();
+    let first = trade.next_page(free);
     write_entries(store, PageRef { page: first, level }, &left)?;
     match right {
         None => Ok(Placed {
             pages: ChildPages::One(first),
-            used: taken.used,
-            path: taken.path,
+            trade,
         }),
         Some(half) => {
-            let second = taken.next();
+            let second = trade.next_page(free);
             write_entries(
                 store,
                 PageRef {
@@ -52,8 +51,7 @@ pub(crate) fn place<S: PageStore>(
             )?;
             Ok(Placed {
                 pages: ChildPages::Two(first, half.key, second),
-                used: taken.used,
-                path: taken.path,
+                trade,
             })
         }
     }

@@ -11,7 +11,7 @@ use crate::left::Left;
 use crate::page::{read_page, write_entries};
 use crate::page_entries::PageEntries;
 use crate::step::Step;
-use crate::taken::Taken;
+use crate::trade::Trade;
 use faults::fault::Fault;
 use layout::page_ref::PageRef;
 use pages::store::PageStore;
@@ -22,28 +22,24 @@ fn place_left<S: PageStore>(
     store: &mut S,
     level: u8,
     page: &PageEntries,
-    mut taken: Taken,
+    free: &FreeList,
+    mut trade: Trade,
 ) -> Result<Left, Fault>
-    requires { taken.used < length (numbers taken.free.now) }
-    ensures places { PlacesLeft (S.meaning store.old) level (entries page.now.list) (numbers taken.entry.free.now) taken.entry.used result (S.meaning store.new) }
-    ensures path { IfOk result (λ g. g.path ≡ taken.entry.path) }
+    requires { trade.used < length (numbers free.now) }
+    ensures places { PlacesLeft (S.meaning store.old) level (entries page.now.list) (numbers free.now) trade.used result (S.meaning store.new) }
+    ensures path { IfOk result (λ g. g.trade.path ≡ trade.path) }
 {
     if page.list.len() == 0 {
-        return Ok(Left {
-            page: None,
-            used: taken.used,
-            path: taken.path,
-        });
+        return Ok(Left { page: None, trade });
     }
     let at = PageRef {
-        page: taken.next(),
+        page: trade.next_page(free),
         level,
     };
     write_entries(store, at, page)?;
     Ok(Left {
         page: Some(at.page),
-        used: taken.used,
-        path: taken.path,
+        trade,
     })
 }
 
@@ -56,22 +52,21 @@ fn withdraw_at<S: PageStore>(
 ) -> Result<Left, Fault>
     requires { step.at.level ≤ length (numbers free.now) }
     ensures withdraws { Withdrawn (S.meaning store.old) step.at.level step.at.page address (numbers free.now) result (S.meaning store.new) }
-    ensures path { IfOk result (λ g. IsPath (S.meaning store.old) step.at.level step.at.page address g.path.items) }
+    ensures path { IfOk result (λ g. IsPath (S.meaning store.old) step.at.level step.at.page address g.trade.path.items) }
 {
     let mut page = read_page(store, step.at)?;
     if step.at.level == 1 {
         page.take_one(address)?;
-        let taken = Taken::none(free).with_old(step.at.page);
-        return place_left(store, 1, &page, taken);
+        let trade = Trade::default().with_old(step.at.page);
+        return place_left(store, 1, &page, free, trade);
     }
     let child = Step {
         at: page.child(step.at, address),
     };
     let below = withdraw_at(store, child, address, free)?;
     page.restore_child(address, below.page);
-    let Left { used, path, .. } = below;
-    let taken = Taken { free, used, path }.with_old(step.at.page);
-    place_left(store, step.at.level, &page, taken)
+    let trade = below.trade.with_old(step.at.page);
+    place_left(store, step.at.level, &page, free, trade)
 }
 
 // Whether a path of this height can be copied: it has at most six pages, and as many are free.

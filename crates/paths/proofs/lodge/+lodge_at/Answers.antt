@@ -1,4 +1,4 @@
-use Rattle.std.proofs.Common.{◌≤◌, ◌∙◌, arith}
+use Rattle.std.proofs.Common.{◌≤◌, arith}
 use Rattle.std.proofs.lemmas.Result.{err_from_is_err_and}
 use Rattle.paths.specs.declared.place.Placed.{Placed}
 use Rattle.paths.proofs.PathsReading.{goes}
@@ -13,14 +13,13 @@ returns-in_err-page-clause-lodges g t c =
 
 pub returns-then-step-eq1-clause-lodges : goal.returns-then-step-eq1-clause-lodges
 returns-then-step-eq1-clause-lodges g t c =
-    let f = c.with_old-taken.ensures.free ∙ c.none.ensures.free in
     let mean = g.S.PageStore.meaning in
-    lodge_leafed (mean c.args.store.now) (mean c.read_page.new.store) (mean c.lodge_leaf.new.store) _ _ _ _ _ _ c.lodge_leaf.result c.if-step-eq1.true c.in_ok-page.ensures (rw f at c.lodge_leaf.ensures.leafs)
+    lodge_leafed (mean c.args.store.now) (mean c.read_page.new.store) (mean c.lodge_leaf.new.store) _ _ _ _ _ _ c.lodge_leaf.result c.if-step-eq1.true c.in_ok-page.ensures c.lodge_leaf.ensures.leafs
 
 pub returns-then-step-eq1-clause-path : goal.returns-then-step-eq1-clause-path
 returns-then-step-eq1-clause-path g t c =
-    let path : _ = leaf_path (g.S.PageStore.meaning c.args.store.now) _ c.args.step.at.page c.args.address _ _ c.if-step-eq1.true c.none.ensures.path c.with_old-taken.ensures.path in
-    same_path (λ (x : Placed). x.path) (g.S.PageStore.meaning c.args.store.now) _ _ _ _ c.lodge_leaf.result path c.lodge_leaf.ensures.path
+    let path : _ = leaf_path (g.S.PageStore.meaning c.args.store.now) _ c.args.step.at.page c.args.address _ _ c.if-step-eq1.true c.default.ensures.1 c.with_old-trade.ensures.path in
+    same_path (λ (x : Placed). x.trade.path) (g.S.PageStore.meaning c.args.store.now) _ _ _ _ c.lodge_leaf.result path c.lodge_leaf.ensures.path
 
 pub returns-in_err-pages-clause-lodges : goal.returns-in_err-pages-clause-lodges
 returns-in_err-pages-clause-lodges g t c =
@@ -29,9 +28,9 @@ returns-in_err-pages-clause-lodges g t c =
     let w = goes _ _ _ _ _ _ _ _ two c.in_ok-page.ensures c.child.ensures.page c.child.ensures.level in
     rw (p.1, p.2) (lodge_fails _ _ _ _ _ _ _ _ _ _ _ _ _ w (plan_at _ _ _ _ c.below-deep.ensures c.len.ensures.is) c.in_err-pages.ensures.lodges)
 
-pub with_old-taken-requires-2 : goal.with_old-taken-requires-2
-with_old-taken-requires-2 g t c =
-    let n = path_length (g.S.PageStore.meaning c.read_page.new.store) c.child.result.level c.child.result.page c.args.address c.in_ok-pages.field-0.path.items c.in_ok-pages.ensures.path in
+pub with_old-trade-requires-2 : goal.with_old-trade-requires-2
+with_old-trade-requires-2 g t c =
+    let n = path_length (g.S.PageStore.meaning c.read_page.new.store) c.child.result.level c.child.result.page c.args.address c.in_ok-pages.field-0.trade.path.items c.in_ok-pages.ensures.path in
     omega (arith, n, c.child.ensures.level, c.args.step.six, c.args.step.one)
 
 pub place-requires : goal.place-requires
@@ -39,7 +38,7 @@ place-requires g t c =
     let mean = g.S.PageStore.meaning in
     let n = lodge_room (mean c.read_page.new.store) _ c.child.result.level _ _ _ _ c.in_ok-pages.field-0
     (omega (arith, c.requires.low, c.child.ensures.level, same_base _ c.args.plan _ c.below-deep.ensures)) c.in_ok-pages.ensures.lodges in
-    rw (c.with_old-taken-2.ensures.used, c.with_old-taken-2.ensures.free) n
+    rw c.with_old-trade-2.ensures.used n
 
 pub returns-clause-lodges : goal.returns-clause-lodges
 returns-clause-lodges g t c =
@@ -47,12 +46,12 @@ returns-clause-lodges g t c =
     let w = goes _ _ _ _ _ _ _ _ two c.in_ok-page.ensures c.child.ensures.page c.child.ensures.level in
     lodge_climbs _ _ _ _ _ _ _ _ _ _ _ _ _ c.in_ok-pages.field-0 _ c.place.result w
     (plan_at _ _ _ _ c.below-deep.ensures c.len.ensures.is) c.in_ok-pages.ensures.lodges
-    c.renew_child.ensures (rw (c.with_old-taken-2.ensures.used, c.with_old-taken-2.ensures.free) at c.place.ensures.places)
+    c.renew_child-halves.ensures (rw c.with_old-trade-2.ensures.used at c.place.ensures.places)
 
 pub returns-clause-path : goal.returns-clause-path
 returns-clause-path g t c =
     let mean = g.S.PageStore.meaning in
     let two : 2 ≤ c.args.step.at.level = omega arith in
     let w = goes _ _ _ _ _ _ _ _ two c.in_ok-page.ensures c.child.ensures.page c.child.ensures.level in
-    let path : _ = inner_path _ _ (mean c.args.store.now) (mean c.read_page.new.store) _ _ _ _ c.in_ok-pages.field-0.path.items _ w c.in_ok-pages.ensures.path c.with_old-taken-2.ensures.path in
-    same_path (λ (x : Placed). x.path) (mean c.args.store.now) _ _ _ _ c.place.result path c.place.ensures.path
+    let path : _ = inner_path _ _ (mean c.args.store.now) (mean c.read_page.new.store) _ _ _ _ c.in_ok-pages.field-0.trade.path.items _ w c.in_ok-pages.ensures.path c.with_old-trade-2.ensures.path in
+    same_path (λ (x : Placed). x.trade.path) (mean c.args.store.now) _ _ _ _ c.place.result path c.place.ensures.path

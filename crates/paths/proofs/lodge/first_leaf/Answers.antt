@@ -11,10 +11,10 @@ returns-then-len-lt7 g c = first_few _ 0 c.args.address c.len.result (numbers c.
 pub returns-in_err-write_items : goal.returns-in_err-write_items
 returns-in_err-write_items g c =
     let p = err_from_is_err_and c.from_residual.result c.from_residual.ensures.1 in
-    let q = rw (c.none-taken.ensures.free, c.none-taken.ensures.used) at c.next.ensures.page in
+    let q = rw c.default-trade.ensures.0 at c.next_page.ensures.page in
     rw (p.1, p.2) (first_refused _ _ 0 _ _ c.len.result _ _ c.len.ensures (omega arith) q c.in_err-write_items.ensures)
 
 pub returns : goal.returns
 returns g c =
-    let q = rw (c.none-taken.ensures.free, c.none-taken.ensures.used) at c.next.ensures.page in
-    first_made _ _ 0 _ _ c.len.result _ _ _ (rw c.none-taken.ensures.used at c.next.ensures.used) (ap (λ (v : ArrayVec ℕ). v.items) c.next.ensures.path ∙ c.none-taken.ensures.path) c.len.ensures (omega arith) q c.in_ok-write_items.ensures
+    let q = rw c.default-trade.ensures.0 at c.next_page.ensures.page in
+    first_made _ _ 0 _ _ c.len.result _ _ _ (rw c.default-trade.ensures.0 at c.next_page.ensures.used) (ap (λ (v : ArrayVec ℕ). v.items) c.next_page.ensures.path ∙ c.default-trade.ensures.1) c.len.ensures (omega arith) q c.in_ok-write_items.ensures

@@ -24,5 +24,5 @@ new_root-requires g c =
 
 pub returns : goal.returns
 returns g c =
-    lodge_is _ _ _ _ _ _ _ (omega arith) (tree_roots _ _ _ _ _ _ _ c.in_ok-pages.field-0 c.in_ok-pages.field-0.path c.new_root.result (omega arith) (omega arith)
+    lodge_is _ _ _ _ _ _ _ (omega arith) (tree_roots _ _ _ _ _ _ _ c.in_ok-pages.field-0 c.in_ok-pages.field-0.trade.path c.new_root.result (omega arith) (omega arith)
     c.in_ok-pages.ensures.lodges c.in_ok-pages.ensures.path c.new_root.ensures.path c.new_root.ensures.roots)
