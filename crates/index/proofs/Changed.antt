@@ -1,5 +1,5 @@
 -- A path copy and the header over it make a step.
-use Rattle.std.proofs.Common.{◌≡◌, ℕ, ◌≤◌, List, [], ◌∷◌, ◌++◌, length, drop, Ok, Err, Result, sym, refl, ◌∙◌, subst, inl, inr, arith}
+use Rattle.std.proofs.Common.{◌≡◌, ℕ, ◌≤◌, min, List, [], ◌∷◌, ◌++◌, length, drop, Ok, Err, Result, sym, refl, ◌∙◌, subst, inl, inr, arith}
 use Rattle.std.specs.List.{AllByRecursion}
 use Rattle.pages.specs.Image.{Image, at, written, Writes}
 use Rattle.pages.specs.declared.fault.StoreFault.{StoreFault}
@@ -48,15 +48,17 @@ module _ (o : Order) (m : Image) (k : Known) (f : Filed) (free : List ℕ) (hold
     (Copy : Result Copied Fault → Image → Type 0)
     (rule : (a : Answer) (u : State) (v : Content) → Changes o (state m k) f Copy t total a u v → Does o (filed f) (state m k) a u v call) where
   -- the free list after the header is the new tree's
-  free_after : (g : Copied) (m' : Image) (free' : List ℕ) → MadeCopy o m f free t total g m' → GivenBack g.path f.height (drop g.used free) free' → free' ≡ t.free
+  free_after : (g : Copied) (m' : Image) (free' : List ℕ) → MadeCopy o m f free t total g m' → GivenBack g.path (min f.height 6) (drop g.used free) free' → free' ≡ t.free
   free_after g m' free' made given =
       let range = range_law (contents m') (limit m) total (top o) t made.kept in
       let all = subst (λ (xs : List ℕ). AllByRecursion (λ p. (2 ≤ p) × (p ≤ limit m)) xs) made.freed range.1 in
       let apart = subst (λ (xs : List ℕ). Apart xs) made.freed range.2 in
-      given (all_front (limit m) (back f.height g.path) (drop g.used free) (omega arith) all) apart ∙ sym made.freed
+      let low = holds.low in
+      let six : min f.height 6 ≡ f.height = omega arith in
+      subst (λ (n : ℕ). GivenBack g.path n (drop g.used free) free') six given (all_front (limit m) (back f.height g.path) (drop g.used free) (omega arith) all) apart ∙ sym made.freed
 
   pub sealed : (g : Copied) (m' m'' : Image) (free' : List ℕ) → MadeCopy o m f free t total g m' → Copy (Ok g) m' →
-      WritesHead o m' g.height g.root total (Ok tt) m'' → GivenBack g.path f.height (drop g.used free) free' →
+      WritesHead o m' g.height g.root total (Ok tt) m'' → GivenBack g.path (min f.height 6) (drop g.used free) free' →
       Goes o (filed f) (state m k) accepted (state m'' (knows g.height g.root total free')) call
   sealed g m' m'' free' made copy head given =
       let em : m'' ≡ written m' 1 (header_bytes (header_for o (file_of t total))) =

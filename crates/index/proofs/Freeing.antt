@@ -1,11 +1,10 @@
 -- Taking pages from a free list and putting a path back.
-use Rattle.std.proofs.Common.{◌≡◌, ℕ, zero, suc, ◌+◌, ◌-◌, ◌<◌, ◌≤◌, min, Bool, true, false, List, ◌∷◌, ◌++◌, length, get_or, drop, Some, None, Option, sym, ap, ◌∙◌, subst, inl, inr, add-zero, add-suc, add-one, arith}
-use Rattle.std.proofs.lemmas.Bool.{cases_lt}
-use Rattle.std.proofs.lemmas.List.{drop-drop, get_or_past}
+use Rattle.std.proofs.Common.{◌≡◌, ℕ, zero, suc, ◌+◌, ◌-◌, ◌<◌, Bool, true, false, List, ◌∷◌, ◌++◌, get_or, drop, Some, None, Option, sym, ap, ◌∙◌, add-zero, add-suc, add-one, arith}
+use Rattle.std.proofs.lemmas.List.{drop-drop}
 use Rattle.records.specs.Chain.{Takes, Puts}
 use Rattle.tree.specs.Tree.{Apart}
 use Rattle.paths.specs.PathsReading.{back}
-use Rattle.index.specs.Freed.{FitsList, GivenBack}
+use Rattle.index.specs.Freed.{FitsList}
 
 pub taken_more : (i : ℕ) (all xs ys : List ℕ) (r : Option ℕ) → xs ≡ drop i all → Takes xs r ys → ys ≡ drop (i + 1) all
 taken_more i all xs ys (Some k) e t = ap (drop 1) (sym t.3 ∙ e) ∙ drop-drop 1 i all
@@ -36,19 +35,3 @@ put_one i h path xs ys zs false lt fits apart e p =
 pub given_more : (i h : ℕ) (path xs ys zs : List ℕ) (r : Bool) → i < h → (FitsList (back h path) → Apart (back h path ++ xs) → ys ≡ back i path ++ xs) → Puts (get_or path i 0) ys r zs →
     FitsList (back h path) → Apart (back h path ++ xs) → zs ≡ back (i + 1) path ++ xs
 given_more i h path xs ys zs r lt inv p fits apart = rw (add-one i) (put_one i h path xs ys zs r lt fits apart (inv fits apart) p)
-
--- a path of six fits only at the first six levels
-fits_short : (h : ℕ) (path : List ℕ) → length path ≡ 6 → FitsList (back h path) → h ≤ 6
-fits_short h path six fits = elim (cases_lt 6 h) [
-  | inl above ↦
-      let d : 7 + (h - 7) ≡ h = omega arith in
-      let seven : FitsList (back 7 path) = fits_behind (h - 7) 7 path (rw d fits) in
-      absurd (omega (arith, seven.0.0, get_or_past path 6 0 (omega (arith, six))))
-  | inr low ↦ low
-]
-
-pub given_all : (i h : ℕ) (path xs zs : List ℕ) → length path ≡ 6 → i ≡ min 6 h → (FitsList (back h path) → Apart (back h path ++ xs) → zs ≡ back i path ++ xs) → GivenBack path h xs zs
-given_all i h path xs zs six end inv fits apart =
-    let low : h ≤ 6 = fits_short h path six fits in
-    let all : i ≡ h = omega arith in
-    subst (λ (n : ℕ). zs ≡ back n path ++ xs) all (inv fits apart)

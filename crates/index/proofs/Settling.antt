@@ -1,5 +1,5 @@
 -- What the index knows after the end of a change.
-use Rattle.std.proofs.Common.{◌≡◌, ℕ, List, length, drop, Ok, Err, Result, ap, ◌∙◌, length-set}
+use Rattle.std.proofs.Common.{◌≡◌, ℕ, List, min, length, drop, Ok, Err, Result, ap, ◌∙◌, length-set}
 use Rattle.pages.specs.Image.{Image, Writes}
 use Rattle.pages.specs.declared.fault.StoreFault.{StoreFault}
 use Rattle.pages.specs.declared.fault.StoreFault.TheVariants.{Absent, Uncharged}
@@ -18,7 +18,7 @@ use Rattle.index.specs.View.{known_tree}
 
 -- `k` was known before, of a tree of height h with these free pages
 abbrev pub After : Result (Unit {0}) Fault → ℕ → List ℕ → Known → Copied → ℕ → Known → Type 0
-After (Ok u) h free k g total k' = (free' : List ℕ) × (k' ≡ knows g.height g.root total free') × GivenBack g.path h (drop g.used free) free'
+After (Ok u) h free k g total k' = (free' : List ℕ) × (k' ≡ knows g.height g.root total free') × GivenBack g.path (min h 6) (drop g.used free) free'
 After (Err f) h free k g total k' = k' ≡ k
 
 pub after_known : (t t' : OpenTree) (g : Copied) (total : ℕ) (res : Result (Unit {0}) Fault) → Renews t g total res t' →

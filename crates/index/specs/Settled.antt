@@ -1,5 +1,5 @@
 -- The end of a change of the tree: the header of the copied tree is written, and only then the index remembers the new tree.
-use Rattle.std.specs.Prelude.{◌≡◌, ℕ, drop, Ok, Err, Result}
+use Rattle.std.specs.Prelude.{◌≡◌, ℕ, min, drop, Ok, Err, Result}
 use Rattle.records.specs.Free.{numbers}
 use Rattle.faults.specs.declared.fault.Fault.{Fault}
 use Rattle.paths.specs.declared.copied.Copied.{Copied}
@@ -12,7 +12,7 @@ pub record Renewed (t : OpenTree) (g : Copied) (sum : ℕ) (t' : OpenTree) : Typ
   pub root : t'.root ≡ g.root
   pub total : t'.total ≡ sum
   -- the free list has lost what the copy used and has the old path at its front
-  pub free : GivenBack g.path t.height (drop g.used (numbers t.free)) (numbers t'.free)
+  pub free : GivenBack g.path (min t.height 6) (drop g.used (numbers t.free)) (numbers t'.free)
 
 -- where the write of page 1 is refused, nothing changes
 abbrev pub Renews : OpenTree → Copied → ℕ → Result (Unit {0}) Fault → OpenTree → Type 0
