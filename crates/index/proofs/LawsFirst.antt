@@ -61,7 +61,7 @@ module _ (o : Order) (law : Lawful o) (m : Image) (x : List ℕ) (inside : InSpa
   after = stored writes (after_reads m 0)
 
   abbrev copy : Copied
-  copy = record { root = record { page = front (usable (limit m)); level = 1 }; used = 1; path = record { items = [] } }
+  copy = record { root = record { page = front (usable (limit m)); level = 1 }; trade = record { used = 1; path = record { items = [] } } }
 
   room : 7 ≤ length (usable (limit m))
   room = omega (arith, upward_length 2 (limit m - 1))

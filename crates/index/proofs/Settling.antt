@@ -18,7 +18,7 @@ use Rattle.index.specs.View.{known_tree}
 
 -- `k` was known before, of a tree with these free pages
 abbrev pub After : Result (Unit {0}) Fault → List ℕ → Known → Copied → ℕ → Known → Type 0
-After (Ok u) free k g total k' = (free' : List ℕ) × (k' ≡ knows g.root.level g.root.page total free') × GivenBack g.path.items (drop g.used free) free'
+After (Ok u) free k g total k' = (free' : List ℕ) × (k' ≡ knows g.root.level g.root.page total free') × GivenBack g.trade.path.items (drop g.trade.used free) free'
 After (Err f) free k g total k' = k' ≡ k
 
 pub after_known : (t t' : OpenTree) (g : Copied) (total : ℕ) (res : Result (Unit {0}) Fault) → Renews t g total res t' →

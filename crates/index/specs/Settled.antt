@@ -11,7 +11,7 @@ pub record Renewed (t : OpenTree) (g : Copied) (sum : ℕ) (t' : OpenTree) : Typ
   pub root : t'.root ≡ g.root
   pub total : t'.total ≡ sum
   -- the free list has lost what the copy used and has the old path at its front
-  pub free : GivenBack g.path.items (drop g.used (numbers t.free)) (numbers t'.free)
+  pub free : GivenBack g.trade.path.items (drop g.trade.used (numbers t.free)) (numbers t'.free)
 
 -- where the write of page 1 is refused, nothing changes
 abbrev pub Renews : OpenTree → Copied → ℕ → Result (Unit {0}) Fault → OpenTree → Type 0

@@ -23,8 +23,8 @@ impl OpenTree {
         ensures tree { Renews self.old copied total result self.new }
     {
         write_head(store, order, copied.root, total)?;
-        take_used(&mut self.free, copied.used);
-        give_back(&mut self.free, copied.path.as_slice());
+        take_used(&mut self.free, copied.trade.used);
+        give_back(&mut self.free, copied.trade.path.as_slice());
         self.root = copied.root;
         self.total = total;
         Ok(())
