@@ -53,9 +53,8 @@ pub(crate) fn walk_page<S: PageStore, O: PointOrder>(
     let list = EntryList::of_page(&bytes);
     let entries = list.as_slice();
     if at.level <= 1 {
-        let ending = put_finds(request, entries, finds);
         return Part {
-            ending,
+            ending: put_finds(request, entries, finds),
             reads: 1,
             next: request.first_past(end),
         };

@@ -26,14 +26,15 @@ fn child_visit(v: Visit, entries: &[Entry], i: usize) -> Visit
     requires level { 1 ≤ v.level }
     ensures { result ≡ slice_index_or (child_visits (v.level - 1) v.lo v.hi entries.now) i (visit 0 0 0 0) }
 {
+    let child = entries[i];
     let lo = if i == 0 { v.lo } else { entries[i - 1].key + 1 };
     let hi = if i + 1 == entries.len() {
         v.hi
     } else {
-        entries[i].key
+        child.key
     };
     Visit {
-        page: entries[i].value,
+        page: child.value,
         level: v.level - 1,
         lo,
         hi,

@@ -25,7 +25,7 @@ fn is_new(page: u16, last: u16, marks: &[bool; 1026]) -> bool
     requires { last ≤ 1024 }
     ensures { Decides result ((2 ≤ page) × (page ≤ last) × (slice_index_or marks.now page false ≡ false)) }
 {
-    page >= 2 && page <= last && !marks[page as usize]
+    (2..=last).contains(&page) && !marks[usize::from(page)]
 }
 
 // Visits every page, depth first, a page before its children, lower regions first. Rule A is asked before a page is read.

@@ -18,7 +18,7 @@ walk_page-returns-then-at-le1 g t c =
     c.in-Some.a c.in-Some.ensures (g.S.PageStore.meaning c.fetch.new.store) [] c.fetch.new.into
     (fetched _ _ _ _ c.fetch.result _ _ (sym c.is_err.ensures.value ∙ c.if-is_err.false) c.fetch.ensures)
     c.as_slice-entries.result.now (c.as_slice-entries.ensures ∙ c.of_page-list.ensures)
-    c.put_finds-ending.result c.first_past.result c.put_finds-ending.new.finds c.if-at-le1.true c.put_finds-ending.ensures c.first_past.ensures
+    c.put_finds.result c.first_past.result c.put_finds.new.finds c.if-at-le1.true c.put_finds.ensures c.first_past.ensures
 
 pub walk_page-returns : goal.walk_page-returns
 walk_page-returns g t c =
