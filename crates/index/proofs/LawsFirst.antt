@@ -1,5 +1,5 @@
 -- A format and a first lodge, as a history.
-use Rattle.std.proofs.Common.{◌≡◌, ℕ, suc, ◌-◌, ◌^◌, ◌<◌, ◌≤◌, min, List, length, replicate, Ok, sym, refl, ap, ◌∙◌, subst, arith, length-set}
+use Rattle.std.proofs.Common.{◌≡◌, ℕ, suc, ◌-◌, ◌^◌, ◌<◌, ◌≤◌, min, List, length, replicate, Ok, sym, refl, ap, ◌∙◌, subst, arith, length-set, []}
 use lib.Pow.{pow-lt}
 use Rattle.pages.specs.Image.{Image, at, written}
 use Rattle.layout.specs.Heads.{header_bytes}

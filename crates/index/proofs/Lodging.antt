@@ -100,7 +100,7 @@ unlodged_size m m' h count height takes n ws f (denied d e) = ap (λ (i : Image)
 unlodged_size m m' h count height takes n ws f (cut allowed u) = ap (λ (i : Image). length i.pages) u.cut.began.image ∙ stored_length u.cut.done (after_reads m h)
 
 lodged_size : (m m' : Image) (h p a : ℕ) (free : List ℕ) (res : Result Copied Fault) → LodgedBy m h p a free res m' → length m'.pages ≡ length m.pages
-lodged_size m m' h p a free (Ok g) l = ap (λ (i : Image). length i.pages) l.3.image ∙ stored_length (lodge_by h (contents m) p a free).writes (after_reads m h)
+lodged_size m m' h p a free (Ok g) l = ap (λ (i : Image). length i.pages) l.wrote.image ∙ stored_length (lodge_by h (contents m) p a free).writes (after_reads m h)
 lodged_size m m' h p a free (Err f) (inl mis) = (misread_alone m m' h p a free f mis).size
 lodged_size m m' h p a free (Err f) (inr un) = unlodged_size m m' h _ _ _ _ _ f un.1
 

@@ -53,15 +53,7 @@ module _ (o : Order) (m : Image) (k : Known) (work : ℕ) where
       breaks h p r left got (rw same_last at e) refl (λ i. state (em i) shut)
   scan_refused h (Unread a) m' marks got (records, low, (p, level, e, at, em)) =
       unread h p level got (rw same_last at e) (λ i. refusal (Unread (record { page = at.0 i; level = at.1 i; fault = at.2 i }))) (λ i. state (em i) shut)
-  scan_refused h (Absent a) m' marks got s = absurd s
-  scan_refused h Shut m' marks got s = absurd s
-  scan_refused h Outside m' marks got s = absurd s
-  scan_refused h OtherOrder m' marks got s = absurd s
-  scan_refused h NoEvent m' marks got s = absurd s
-  scan_refused h CountFull m' marks got s = absurd s
-  scan_refused h HeightFull m' marks got s = absurd s
-  scan_refused h Room m' marks got s = absurd s
-  scan_refused h (Unwritten a) m' marks got s = absurd s
+  scan_refused h _ m' marks got s = absurd s.2
 
 -- a page is new just where it is not among those seen
 one_more : (b q : Bool) (n : ℕ) → q ≡ eqb n 0 → cond b false q ≡ eqb (cond b 1 0 + n) 0

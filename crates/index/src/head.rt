@@ -27,7 +27,9 @@ pub(crate) fn read_head<S: PageStore, O: PointOrder>(
 {
     let mut page = [0; 128];
     fetch(store, HEADER, &mut page)?;
-    let header = Header::try_from(&page).map_err(|_| Fault::NoHeader)?;
+    let Ok(header) = Header::try_from(&page) else {
+        return Err(Fault::NoHeader);
+    };
     if !is_ours(order, &header) {
         return Err(Fault::OtherOrder);
     }

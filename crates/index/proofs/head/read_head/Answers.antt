@@ -1,9 +1,6 @@
-use Rattle.std.proofs.Common.{[], Result, sym, ◌∙◌, subst}
+use Rattle.std.proofs.Common.{[], sym, ◌∙◌}
 use Rattle.std.proofs.lemmas.Bool.{true≢false}
 use Rattle.std.proofs.lemmas.Result.{err_from_is_err_and}
-use Rattle.layout.specs.declared.header.Header.{Header}
-use Rattle.layout.specs.declared.header.NotHeader.{NotHeader}
-use Rattle.layout.specs.Heads.{ReadsHeader}
 use Rattle.index.proofs.Heading.{head_refused, head_other}
 use Rattle.index.proofs.head.read_head.Goals as goal
 
@@ -14,5 +11,5 @@ returns-in_err-fetch g c =
 
 pub returns-then-not-is_ours : goal.returns-then-not-is_ours
 returns-then-not-is_ours g c =
-    let h = subst (λ (r : Result Header NotHeader). ReadsHeader c.fetch.new.into r) c.in_ok-header.ensures.ok_part c.try_from.ensures in
-    head_other _ _ _ [] c.fetch.new.into c.in_ok-header.header c.in_ok-fetch.ensures h.0 h.1 (λ ours. true≢false (sym (c.is_ours.ensures.1 ours) ∙ c.if-not-is_ours.true))
+    let h = c.in-Ok.ensures in
+    head_other _ _ _ [] c.fetch.new.into c.in-Ok.header c.in_ok-fetch.ensures h.0 h.1 (λ ours. true≢false (sym (c.is_ours.ensures.1 ours) ∙ c.if-not-is_ours.true))
