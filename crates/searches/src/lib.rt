@@ -7,4 +7,3 @@ mod part;
 pub mod request;
 pub mod search;
 mod walking;
-mod within;

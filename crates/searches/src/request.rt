@@ -2,7 +2,6 @@
 ghost use Rattle.std.specs.Prelude.{suc};
 ghost use Rattle.searches.specs.Sought.{sought, Passes, FirstFrom};
 
-use crate::within::within;
 use orders::order::PointOrder;
 use orders::point::Point;
 use orders::space::QueryBox;
@@ -23,7 +22,9 @@ impl<O: PointOrder> Request<'_, O> {
         if address < self.start {
             return None;
         }
-        self.order.point(address).filter(|x| within(self.query, *x))
+        self.order
+            .point(address)
+            .filter(|x| self.query.contains(*x))
     }
 
     // The first address of the box from the start on.
