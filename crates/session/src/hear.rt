@@ -1,9 +1,9 @@
 // Hearing a line: what is answered alike at every point of a script is answered here.
+use crate::answer::Answer;
 use crate::session::{Ending, Session};
 use orders::refusal::Refusal;
 use script::call::Call;
 use script::line::{Line, parse_line};
-use script::reason::Reason;
 use script::setup::Setup;
 use script::trouble::Trouble;
 use script::words::{joined, split_words};
@@ -19,13 +19,8 @@ pub enum Heard<'a> {
 }
 
 // Answers a line.
-pub fn say(rt: &HostRuntime, echo: &String, answer: &str) -> anyhow::Result<()> {
+pub fn say(rt: &HostRuntime, echo: &String, answer: Answer) -> anyhow::Result<()> {
     println!(rt; "{echo} -> {answer}")?;
-    Ok(())
-}
-
-pub fn say_unclear(rt: &HostRuntime, echo: &String, reason: Reason) -> anyhow::Result<()> {
-    println!(rt; "{echo} -> not understood: {reason}")?;
     Ok(())
 }
 
@@ -37,7 +32,7 @@ fn note(
     ending: Ending,
 ) -> anyhow::Result<()> {
     session.endings.push(ending)?;
-    say(rt, echo, "ok")
+    say(rt, echo, Answer::Ok)
 }
 
 // The line with single spaces, and what it says; none where it is answered already, or is passed over in silence.
@@ -63,7 +58,7 @@ pub fn hear<'a>(
         Ok(Line::Setup(setup)) => return Ok(Some((echo, Heard::Setup(setup)))),
         Ok(Line::Call(call)) => return Ok(Some((echo, Heard::Call(call)))),
         Err(Trouble::Refused(refusal)) => return Ok(Some((echo, Heard::Refused(refusal)))),
-        Err(Trouble::Unclear(reason)) => say_unclear(rt, &echo, reason)?,
+        Err(Trouble::Unclear(reason)) => say(rt, &echo, Answer::Unclear(reason))?,
         Err(Trouble::Memory) => return Err(AllocError.into()),
     }
     Ok(None)

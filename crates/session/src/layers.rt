@@ -1,14 +1,15 @@
 // The second part of a script: the layers over the store, two at most.
-use crate::answer::making_text;
-use crate::hear::{Heard, hear, say, say_unclear};
+use crate::answer::Answer;
+use crate::hear::{Heard, hear, say};
+use crate::parts::{Step, part};
 use crate::serve::serve;
 use crate::session::Session;
-use crate::stores::Step;
 use pages::skip::{Skip, skip_allowed};
 use pages::store::PageStore;
 use pages::turned::Turned;
 use script::reason::Reason;
 use script::setup::Setup;
+use std::ops::ControlFlow;
 
 #[derive(Drop)]
 enum Layer {
@@ -24,75 +25,74 @@ fn layer_line(
     line: &str,
 ) -> anyhow::Result<Step<Layer>> {
     let Some((echo, heard)) = hear(rt, session, line)? else {
-        return Ok(Step::Stay);
+        return Ok(ControlFlow::Continue(()));
     };
     match heard {
         Heard::Setup(Setup::Turned) => {
-            say(rt, &echo, "ok")?;
-            Ok(Step::Made(Layer::Turned))
+            say(rt, &echo, Answer::Ok)?;
+            Ok(ControlFlow::Break(Some(Layer::Turned)))
         }
         Heard::Setup(Setup::Skip(bad)) => {
-            match skip_allowed(bad.as_slice(), size) {
-                Ok(()) => say(rt, &echo, "ok")?,
-                Err(fault) => {
-                    let text = making_text(rt.alloc(), fault)?;
-                    say(rt, &echo, text.as_str())?;
-                }
-            }
-            Ok(Step::Made(Layer::Skip(bad)))
+            let answer = skip_allowed(bad.as_slice(), size).map_or_else(
+                Answer::Unmade,
+                |()| Answer::Ok,
+            );
+            say(rt, &echo, answer)?;
+            Ok(ControlFlow::Break(Some(Layer::Skip(bad))))
         }
         Heard::Setup(_) => {
-            say_unclear(rt, &echo, Reason::Order)?;
-            Ok(Step::Stay)
+            say(rt, &echo, Answer::Unclear(Reason::Order))?;
+            Ok(ControlFlow::Continue(()))
         }
-        Heard::Call(_) | Heard::Refused(_) => Ok(Step::Over),
+        Heard::Call(_) | Heard::Refused(_) => Ok(ControlFlow::Break(None)),
     }
 }
 
-// The next layer over a store of so many pages, if any, and the lines that are left.
-fn next_layer<'s, 't>(
-    rt: &HostRuntime,
-    session: &mut Session,
-    size: u16,
-    lines: &'s [&'t str],
-) -> anyhow::Result<(Option<Layer>, &'s [&'t str])> {
-    let mut left = lines;
-    while let [line, more @ ..] = left {
-        match layer_line(rt, session, size, line)? {
-            Step::Stay => left = more,
-            Step::Made(layer) => return Ok((Some(layer), more)),
-            Step::Over => break,
+// What may still come over a store: the rest of the script runs on any store.
+pub trait Rest {
+    fn run<S: PageStore + Drop>(
+        rt: &HostRuntime,
+        session: &mut Session,
+        store: S,
+        lines: &[&str],
+    ) -> anyhow::Result<()>;
+}
+
+// No further layer: calls.
+pub struct Calls;
+
+// One layer more, if the script names one, and then what `R` says.
+pub struct Layered<R> {
+    rest: R,
+}
+
+// A script has two layers at most.
+pub type TwoLayers = Layered<Layered<Calls>>;
+
+impl Rest for Calls {
+    fn run<S: PageStore + Drop>(
+        rt: &HostRuntime,
+        session: &mut Session,
+        store: S,
+        lines: &[&str],
+    ) -> anyhow::Result<()> {
+        serve(rt, session, store, lines)
+    }
+}
+
+impl<R: Rest> Rest for Layered<R> {
+    fn run<S: PageStore + Drop>(
+        rt: &HostRuntime,
+        session: &mut Session,
+        store: S,
+        lines: &[&str],
+    ) -> anyhow::Result<()> {
+        let size = store.size();
+        let (layer, left) = part(lines, |line| layer_line(rt, session, size, line))?;
+        match layer {
+            None => serve(rt, session, store, left),
+            Some(Layer::Turned) => R::run(rt, session, Turned::over(store), left),
+            Some(Layer::Skip(bad)) => R::run(rt, session, Skip::over(store, bad.as_slice()), left),
         }
-    }
-    Ok((None, left))
-}
-
-// Runs the script over a store that may still get two layers.
-pub fn run_bare<S: PageStore + Drop>(
-    rt: &HostRuntime,
-    session: &mut Session,
-    store: S,
-    lines: &[&str],
-) -> anyhow::Result<()> {
-    let (layer, left) = next_layer(rt, session, store.size(), lines)?;
-    match layer {
-        None => serve(rt, session, store, left),
-        Some(Layer::Turned) => run_layered(rt, session, Turned::over(store), left),
-        Some(Layer::Skip(bad)) => run_layered(rt, session, Skip::over(store, bad.as_slice()), left),
-    }
-}
-
-// Runs the script over a store that may still get one.
-fn run_layered<S: PageStore + Drop>(
-    rt: &HostRuntime,
-    session: &mut Session,
-    store: S,
-    lines: &[&str],
-) -> anyhow::Result<()> {
-    let (layer, left) = next_layer(rt, session, store.size(), lines)?;
-    match layer {
-        None => serve(rt, session, store, left),
-        Some(Layer::Turned) => serve(rt, session, Turned::over(store), left),
-        Some(Layer::Skip(bad)) => serve(rt, session, Skip::over(store, bad.as_slice()), left),
     }
 }

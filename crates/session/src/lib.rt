@@ -6,6 +6,7 @@ mod calls;
 mod hear;
 mod layers;
 mod memory;
+mod parts;
 pub mod run;
 mod serve;
 mod session;

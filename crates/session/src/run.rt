@@ -1,6 +1,6 @@
 // One whole script.
-use crate::layers::run_bare;
-use crate::memory::{Memory, dump, save};
+use crate::layers::{Rest, TwoLayers};
+use crate::memory::Memory;
 use crate::session::{Ending, Session};
 use crate::stores::set_store;
 use pages::memory::MemoryStore;
@@ -14,15 +14,12 @@ fn run_over(
 ) -> anyhow::Result<()> {
     match memory {
         Memory::Bytes(bytes) => {
-            run_bare(rt, session, MemoryStore::over(bytes.as_mut_slice()), lines)
+            let store = MemoryStore::over(bytes.as_mut_slice());
+            TwoLayers::run(rt, session, store, lines)
         }
         Memory::Slots(slots, pages) => {
-            run_bare(
-                rt,
-                session,
-                SlotStore::over(slots.as_mut_slice(), *pages),
-                lines,
-            )
+            let store = SlotStore::over(slots.as_mut_slice(), *pages);
+            TwoLayers::run(rt, session, store, lines)
         }
     }
 }
@@ -35,8 +32,8 @@ pub fn run_script(rt: &HostRuntime, text: &str) -> anyhow::Result<()> {
     run_over(rt, &mut session, &mut memory, left)?;
     for ending in session.endings.iter() {
         match ending {
-            Ending::Dump => dump(rt, &memory)?,
-            Ending::Save(file) => save(rt, &memory, file.as_str())?,
+            Ending::Dump => memory.dump(rt)?,
+            Ending::Save(file) => memory.save(rt, file.as_str())?,
         }
     }
     Ok(())

@@ -1,34 +1,22 @@
 // The last part of a script: calls.
-use crate::answer::{answer_text, refusal_text};
-use crate::calls::{access_text, call_text};
-use crate::hear::{Heard, hear, say, say_unclear};
+use crate::answer::Answer;
+use crate::calls::{access, call};
+use crate::hear::{Heard, hear, say};
 use crate::session::Session;
 use index::index::Index;
-use orders::order::{PointOrder, row_order, z_order};
+use orders::order::{PointOrder, RowOrder, ZOrder};
 use pages::store::PageStore;
 use script::call::{Access, Call};
 use script::question::ask;
 use script::reason::Reason;
 use script::setup::{OrderKind, Setup};
 
-// A set-up line that comes too late.
-fn late_line(
-    rt: &HostRuntime,
-    session: &Session,
-    echo: &String,
-    setup: Setup,
-) -> anyhow::Result<()> {
-    match setup {
-        Setup::Turned | Setup::Skip(_) => {
-            let reason = if session.called {
-                Reason::Order
-            } else {
-                Reason::Layers
-            };
-            say_unclear(rt, echo, reason)
-        }
-        _ => say_unclear(rt, echo, Reason::Order),
-    }
+// The answer to a set-up line that comes too late.
+fn late(session: &Session, setup: Setup) -> Answer {
+    Answer::Unclear(match setup {
+        Setup::Turned | Setup::Skip(_) if !session.called => Reason::Layers,
+        _ => Reason::Order,
+    })
 }
 
 // Accesses the store past the index: the index is taken apart, and a new one is made, shut.
@@ -36,11 +24,10 @@ fn access_line<S: PageStore + Drop, O: PointOrder + Drop>(
     rt: &HostRuntime,
     index: Index<S, O>,
     echo: &String,
-    access: Access,
+    line: Access,
 ) -> anyhow::Result<Index<S, O>> {
     let (mut store, order) = index.into_parts();
-    let text = access_text(rt.alloc(), &mut store, access)?;
-    say(rt, echo, text.as_str())?;
+    say(rt, echo, access(&mut store, line))?;
     Ok(Index::new(store, order))
 }
 
@@ -55,23 +42,21 @@ fn call_line<S: PageStore + Drop, O: PointOrder + Drop>(
     let Some((echo, heard)) = hear(rt, session, line)? else {
         return Ok(index);
     };
-    let text = match heard {
+    let answer = match heard {
         Heard::Setup(setup) => {
-            late_line(rt, session, &echo, setup)?;
+            say(rt, &echo, late(session, setup))?;
             return Ok(index);
         }
         Heard::Call(Call::Access(access)) => {
             session.called = true;
             return access_line(rt, index, &echo, access);
         }
-        Heard::Call(Call::Ask(question)) => {
-            answer_text(rt.alloc(), ask(order, question), order.n())?
-        }
-        Heard::Call(Call::Index(call)) => call_text(rt.alloc(), &mut index, call)?,
-        Heard::Refused(refusal) => refusal_text(rt.alloc(), refusal)?,
+        Heard::Call(Call::Ask(question)) => Answer::Asked(ask(order, question), order.n()),
+        Heard::Call(Call::Index(line)) => call(rt.alloc(), &mut index, line)?,
+        Heard::Refused(refusal) => Answer::Impossible(refusal),
     };
     session.called = true;
-    say(rt, &echo, text.as_str())?;
+    say(rt, &echo, answer)?;
     Ok(index)
 }
 
@@ -101,7 +86,7 @@ pub fn serve<S: PageStore + Drop>(
         return Ok(());
     };
     match order.kind {
-        OrderKind::Z => serve_in(rt, session, store, z_order(order.space), lines),
-        OrderKind::Row => serve_in(rt, session, store, row_order(order.space), lines),
+        OrderKind::Z => serve_in(rt, session, store, ZOrder::over(order.space), lines),
+        OrderKind::Row => serve_in(rt, session, store, RowOrder::over(order.space), lines),
     }
 }

@@ -48,9 +48,6 @@ impl Session {
 
     // The number of coordinates of the space that stands.
     pub fn coordinates(&self) -> u8 {
-        match self.order {
-            Some(order) => order.space.n(),
-            None => 4,
-        }
+        self.order.map_or(4, |order| order.space.n())
     }
 }

@@ -1,89 +1,71 @@
 // The first part of a script: the order and the store.
-use crate::answer::{making_text, refusal_text};
-use crate::hear::{Heard, hear, say, say_unclear};
+use crate::answer::Answer;
+use crate::hear::{Heard, hear, say};
 use crate::memory::{Memory, blank_slots, filled};
+use crate::parts::{Step, part};
 use crate::session::{Chosen, Session};
 use orders::space::Space;
 use script::reason::Reason;
 use script::setup::{OrderKind, Setup};
 use slots::store::making::slots_allowed;
 use std::fs;
+use std::ops::ControlFlow;
 
-// What a line did to this part of the script.
-#[derive(Drop)]
-pub enum Step<T> {
-    // it goes on
-    Stay,
-    // this is made, and the next part begins
-    Made(T),
-    // the line belongs to the next part
-    Over,
-}
-
-fn set_order(
-    rt: &HostRuntime,
-    session: &mut Session,
-    echo: &String,
-    kind: OrderKind,
-    n: u8,
-    p: u8,
-) -> anyhow::Result<()> {
+// The answer to a choice of the order, which is made once.
+fn choose(session: &mut Session, kind: OrderKind, n: u8, p: u8) -> Answer {
     if session.order.is_some() {
-        return say_unclear(rt, echo, Reason::Order);
+        return Answer::Unclear(Reason::Order);
     }
     match Space::new(n, p) {
         Ok(space) => {
             session.order = Some(Chosen { kind, space });
-            say(rt, echo, "ok")
+            Answer::Ok
         }
-        Err(refusal) => {
-            let text = refusal_text(rt.alloc(), refusal)?;
-            say(rt, echo, text.as_str())
-        }
+        Err(refusal) => Answer::Impossible(refusal),
     }
 }
 
 fn read_image(rt: &HostRuntime, echo: &String, file: &str) -> anyhow::Result<Step<Memory>> {
     match fs::read(rt, file) {
         Ok(bytes) => {
-            say(rt, echo, "ok")?;
-            Ok(Step::Made(Memory::Bytes(bytes)))
+            say(rt, echo, Answer::Ok)?;
+            Ok(ControlFlow::Break(Some(Memory::Bytes(bytes))))
         }
         Err(_) => {
             println!(rt; "{echo} -> cannot read {file}")?;
-            Ok(Step::Stay)
+            Ok(ControlFlow::Continue(()))
         }
     }
 }
 
-fn make_slots(rt: &HostRuntime, echo: &String, pages: u16) -> anyhow::Result<Step<Memory>> {
+fn make_slots(rt: &HostRuntime, echo: &String, pages: u16) -> anyhow::Result<Memory> {
     let slots = blank_slots(rt.alloc(), pages)?;
-    match slots_allowed(slots.as_slice(), pages) {
-        Ok(()) => say(rt, echo, "ok")?,
-        Err(fault) => {
-            let text = making_text(rt.alloc(), fault)?;
-            say(rt, echo, text.as_str())?;
-        }
-    }
-    Ok(Step::Made(Memory::Slots(slots, pages)))
+    let answer = slots_allowed(slots.as_slice(), pages).map_or_else(
+        Answer::Unmade,
+        |()| Answer::Ok,
+    );
+    say(rt, echo, answer)?;
+    Ok(Memory::Slots(slots, pages))
 }
 
 fn store_line(rt: &HostRuntime, session: &mut Session, line: &str) -> anyhow::Result<Step<Memory>> {
     let Some((echo, heard)) = hear(rt, session, line)? else {
-        return Ok(Step::Stay);
+        return Ok(ControlFlow::Continue(()));
     };
     match heard {
         Heard::Setup(Setup::Order(kind, n, p)) => {
-            set_order(rt, session, &echo, kind, n, p)?;
-            Ok(Step::Stay)
+            say(rt, &echo, choose(session, kind, n, p))?;
+            Ok(ControlFlow::Continue(()))
         }
         Heard::Setup(Setup::Memory(pages, byte)) => {
-            say(rt, &echo, "ok")?;
-            Ok(Step::Made(filled(rt.alloc(), pages, byte)?))
+            say(rt, &echo, Answer::Ok)?;
+            Ok(ControlFlow::Break(Some(filled(rt.alloc(), pages, byte)?)))
         }
         Heard::Setup(Setup::Image(file)) => read_image(rt, &echo, file),
-        Heard::Setup(Setup::Slot(pages)) => make_slots(rt, &echo, pages),
-        _ => Ok(Step::Over),
+        Heard::Setup(Setup::Slot(pages)) => {
+            Ok(ControlFlow::Break(Some(make_slots(rt, &echo, pages)?)))
+        }
+        _ => Ok(ControlFlow::Break(None)),
     }
 }
 
@@ -93,13 +75,9 @@ pub fn set_store<'s, 't>(
     session: &mut Session,
     lines: &'s [&'t str],
 ) -> anyhow::Result<(Memory, &'s [&'t str])> {
-    let mut left = lines;
-    while let [line, more @ ..] = left {
-        match store_line(rt, session, line)? {
-            Step::Stay => left = more,
-            Step::Made(memory) => return Ok((memory, more)),
-            Step::Over => break,
-        }
+    let (made, left) = part(lines, |line| store_line(rt, session, line))?;
+    match made {
+        Some(memory) => Ok((memory, left)),
+        None => Ok((filled(rt.alloc(), 1024, 0)?, left)),
     }
-    Ok((filled(rt.alloc(), 1024, 0)?, left))
 }

@@ -1,0 +1,22 @@
+// A script has parts, and each begins where the one before has made what it is there for.
+use std::ops::ControlFlow;
+
+// What a line does to a part: the part goes on; or it ends, with what the line made, or with nothing where the line belongs to the next part.
+pub type Step<T> = ControlFlow<Option<T>>;
+
+// Goes through the lines of a part; gives what it made, and the lines that are left.
+pub fn part<'s, 't, T: Drop, F: FnMut(&'t str) -> anyhow::Result<Step<T>>>(
+    lines: &'s [&'t str],
+    mut line_does: F,
+) -> anyhow::Result<(Option<T>, &'s [&'t str])>
+    requires { F.IsAlwaysCallable line_does }
+{
+    for (i, line) in lines.iter().enumerate() {
+        match line_does(line)? {
+            ControlFlow::Continue(()) => {}
+            ControlFlow::Break(Some(made)) => return Ok((Some(made), &lines[i + 1..])),
+            ControlFlow::Break(None) => return Ok((None, &lines[i..])),
+        }
+    }
+    Ok((None, &[]))
+}
