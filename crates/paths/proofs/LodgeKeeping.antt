@@ -1,5 +1,5 @@
 -- Lodge where a state is kept.
-use Rattle.std.proofs.Common.{◌≡◌, ℕ, suc, ◌<◌, ◌≤◌, List, ◌∷◌, ◌++◌, length, drop, Ok, Err, Result, sym, refl, ap, ◌∙◌, subst, inl, inr, arith}
+use Rattle.std.proofs.Common.{◌≡◌, ℕ, suc, ◌≤◌, List, ◌∷◌, ◌++◌, length, drop, Ok, Err, Result, sym, refl, ap, ◌∙◌, subst, inl, inr, arith}
 use Rattle.std.specs.List.{AllByRecursion}
 use Rattle.std.proofs.ByRecursion.{All-take, All-weaker}
 use Rattle.pages.specs.Image.{Image, Has}
@@ -20,10 +20,10 @@ use Rattle.paths.specs.LodgeRules.Denied.{full, high, few}
 use Rattle.paths.specs.LodgeRules.Unlodged.{denied, cut}
 use Rattle.paths.specs.LodgeTree.{LodgedBy}
 use Rattle.paths.specs.LodgeKept.{LodgeAllowed, Lodges, LodgeIs, lodge_needs, events_at, LodgeNextLaw, LodgeRefusedLaw, LodgeFreeLaw}
-use Rattle.paths.proofs.PathsWriting.{accepts_charge, after_none}
+use Rattle.paths.proofs.PathsWriting.{accepts_charge}
 use Rattle.paths.proofs.PathsMemory.{kept_after, kept_read}
 use Rattle.paths.proofs.PathsKept.{misread_kept, at_kept, leaf_count}
-use Rattle.paths.proofs.PathsCopying.{only_short, read_alone}
+use Rattle.paths.proofs.PathsCopying.{only_short}
 use Rattle.paths.proofs.LodgeAlone.{lodge_alone}
 use Rattle.paths.proofs.LodgeClimbing.{allowed_same, denied_same}
 
@@ -111,9 +111,6 @@ lodge_is m m' root height a free r h v = record {
   alone = lodge_alone m m' height root a free r v;
   kept = λ limit total top s k e t _. lodges m m' root height a free limit total top s r v k e t;
 }
-
-pub lodge_above : (m : Image) (root height a : ℕ) (free : List ℕ) → 6 < height → LodgeIs m root height a free (Err HeightFull) m
-lodge_above m root height a free h = record { always = λ l. absurd (omega arith); above = λ _. (refl, refl); alone = read_alone m m 0 free (after_none m); kept = λ limit total top s k e t l. absurd (omega arith) }
 
 pub lodge_keeps : LodgeNextLaw
 lodge_keeps m m' limit total top s a g k t d =

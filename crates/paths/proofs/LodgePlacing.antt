@@ -1,20 +1,18 @@
 -- One page or two written: each exit of `place`.
-use Rattle.std.proofs.Common.{◌≡◌, ℕ, ◌+◌, ◌≤◌, List, [], ◌∷◌, length, get_or, drop, Some, None, Ok, Err, Option, Result, sym, refl, ap, ◌∙◌, subst, arith}
+use Rattle.std.proofs.Common.{◌≡◌, ℕ, ◌+◌, ◌≤◌, List, [], ◌∷◌, length, get_or, drop, Some, None, Err, Option, Result, sym, refl, ap, ◌∙◌, subst, arith}
 use Rattle.std.proofs.lemmas.List.{drop_more}
 use Rattle.pages.specs.Image.{Image}
 use Rattle.layout.specs.declared.entry.Entry.{Entry}
-use Rattle.layout.specs.declared.change.ChildPages.TheVariants.{One, Two}
 use Rattle.layout.specs.Listed.{entries}
 use Rattle.tree.specs.CopyMoves.{Split}
 use Rattle.tree.specs.CopyMemory.{place_at}
 use Rattle.faults.specs.declared.fault.Fault.{Fault}
-use Rattle.arrayvec.specs.ArrayVec.{ArrayVec}
 use Rattle.paths.specs.declared.halves.RightPage.{RightPage}
 use Rattle.paths.specs.declared.place.Placed.{Placed}
 use Rattle.paths.specs.PathsWrites.{Wrote, Unwrites}
 use Rattle.paths.specs.PathsPages.{write_of}
 use Rattle.paths.specs.LodgePlaces.{halves_of, PlacedBy, Places}
-use Rattle.paths.proofs.PathsWriting.{wrote_more, unwrites_more, unwrites_less}
+use Rattle.paths.proofs.PathsWriting.{unwrites_more, unwrites_less}
 
 two_free : (free : List ℕ) (used p q : ℕ) → used + 2 ≤ length free → p ≡ get_or free used 0 → q ≡ get_or free (used + 1) 0 → drop used free ≡ p ∷ (q ∷ drop (used + 1 + 1) free)
 two_free free used p q h a b =
@@ -34,13 +32,6 @@ first_refused level used p (Some r) es free m m' f h a u =
     at_front level used p (get_or free (used + 1) 0) (halves_of es (Some r)) free m m' (Err f) h a refl
     (unwrites_less (write_of level p es ∷ []) (write_of level (get_or free (used + 1) 0) (entries r.page.list) ∷ []) m m' f u)
 
-pub placed_one : (level used next p : ℕ) (right : Option RightPage) (es : List Entry) (free : List ℕ) (path : ArrayVec ℕ) (m m' : Image) → next ≡ used + 1 → used + 2 ≤ length free → p ≡ get_or free used 0 → right ≡ None
-    → Wrote (write_of level p es ∷ []) m m' → Places m level (halves_of es right) free used (Ok (record { pages = One p; trade = record { used = next; path = path } })) m'
-placed_one level used next p right es free path m m' i h a e w =
-    subst (λ (x : Option RightPage). Places m level (halves_of es x) free used (Ok (record { pages = One p; trade = record { used = next; path = path } })) m') (sym e)
-    (at_front level used p (get_or free (used + 1) 0) (halves_of es None) free m m' (Ok (record { pages = One p; trade = record { used = next; path = path } })) h a refl
-    (record { pages = refl; rest = ap (λ (x : ℕ). drop x free) i ∙ drop_more free (used + 1) 0 (omega arith); uses = i }, w))
-
 pub second_refused : (level used p q : ℕ) (right : Option RightPage) (r : RightPage) (es : List Entry) (free : List ℕ) (m m₁ m' : Image) (f : Fault) → used + 2 ≤ length free
     → p ≡ get_or free used 0 → q ≡ get_or free (used + 1) 0 → right ≡ Some r → Wrote (write_of level p es ∷ []) m m₁ → Unwrites (write_of level q (entries r.page.list) ∷ []) m₁ f m'
     → Places m level (halves_of es right) free used (Err f) m'
@@ -48,13 +39,3 @@ second_refused level used p q right r es free m m₁ m' f h a b e w u =
     subst (λ (x : Option RightPage). Places m level (halves_of es x) free used (Err f) m') (sym e)
     (at_front level used p q (halves_of es (Some r)) free m m' (Err f) h a b
     (unwrites_more (write_of level p es ∷ []) (write_of level q (entries r.page.list) ∷ []) m m₁ m' f w u))
-
-pub placed_two : (level used next p q : ℕ) (right : Option RightPage) (r : RightPage) (es : List Entry) (free : List ℕ) (path : ArrayVec ℕ) (m m₁ m' : Image) → next ≡ used + 1 + 1 → used + 2 ≤ length free
-    → p ≡ get_or free used 0 → q ≡ get_or free (used + 1) 0 → right ≡ Some r → Wrote (write_of level p es ∷ []) m m₁ → Wrote (write_of level q (entries r.page.list) ∷ []) m₁ m'
-    → Places m level (halves_of es right) free used (Ok (record { pages = Two p r.key q; trade = record { used = next; path = path } })) m'
-placed_two level used next p q right r es free path m m₁ m' i h a b e w v =
-    subst (λ (x : Option RightPage). Places m level (halves_of es x) free used (Ok (record { pages = Two p r.key q; trade = record { used = next; path = path } })) m') (sym e)
-    (at_front level used p q (halves_of es (Some r)) free m m' (Ok (record { pages = Two p r.key q; trade = record { used = next; path = path } })) h a b (
-      record { pages = refl; rest = ap (λ (n : ℕ). drop n free) i; uses = omega (arith, i) },
-      wrote_more (write_of level p es ∷ []) (write_of level q (entries r.page.list) ∷ []) m m₁ m' w v,
-    ))

@@ -11,8 +11,7 @@ use Rattle.tree.specs.Tree.Held.{none, held}
 use Rattle.tree.specs.CopyMoves.{entry, remove}
 use Rattle.tree.specs.CopyPages.{clear, before}
 use Rattle.tree.proofs.CopyBase.{by_le, by_eq}
-use Rattle.paths.proofs.PathsAccesses.{differ}
-use Rattle.paths.specs.WithdrawEdits.{LessOne, left_of}
+use Rattle.paths.specs.WithdrawEdits.{left_of}
 
 remove_same : (a : ℕ) (es : List Entry) → page.remove a es ≡ remove a es
 remove_same a [] = refl
@@ -24,14 +23,6 @@ remove_length a (e ∷ es) =
     by_eq (λ (x : List Entry). length x ≤ suc (length es)) a e.key _ _
     (λ _. by_le (λ (x : List Entry). length x ≤ suc (length es)) e.value 1 _ _ (λ _. omega arith) (λ _. omega arith))
     (λ _. omega (arith, remove_length a es))
-
-pub takes_one : (a : ℕ) (es after : List Entry) (r : Bool) → r ≡ true → Removes a es r after → LessOne a es after
-takes_one a es after true y t = record { event = t.0; less = t.1 ∙ remove_same a es }
-takes_one a es after false y t = differ y
-
-pub takes_none : (a : ℕ) (es after : List Entry) (r : Bool) → r ≡ false → Removes a es r after → (found a es ≡ None) × (after ≡ es)
-takes_none a es after true y t = differ (sym y)
-takes_none a es after false y t = t
 
 before_length : (e : Entry) (es : List Entry) → length (before e es) ≡ suc (length es)
 before_length e [] = refl

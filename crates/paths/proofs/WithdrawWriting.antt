@@ -1,5 +1,5 @@
 -- The writing of one page, or of none.
-use Rattle.std.proofs.Common.{◌≡◌, ℕ, ◌+◌, ◌<◌, List, [], ◌∷◌, length, get_or, drop, Some, None, Ok, Err, Result, sym, refl, ap, ◌∙◌, subst, arith}
+use Rattle.std.proofs.Common.{◌≡◌, ℕ, ◌+◌, ◌<◌, List, [], ◌∷◌, length, get_or, drop, Some, Ok, Result, sym, refl, ap, ◌∙◌, subst}
 use Rattle.std.proofs.lemmas.List.{drop_more}
 use Rattle.pages.specs.Image.{Image}
 use Rattle.layout.specs.declared.entry.Entry.{Entry}
@@ -9,16 +9,6 @@ use Rattle.arrayvec.specs.ArrayVec.{ArrayVec}
 use Rattle.paths.specs.declared.left.Left.{Left}
 use Rattle.paths.specs.PathsPages.{WritesPage}
 use Rattle.paths.specs.Withdrawals.{Placed, PlacesLeft}
-use Rattle.paths.proofs.PathsWriting.{wrote_none}
-
-is_empty : (es : List Entry) (n : ℕ) → n ≡ length es → n ≡ 0 → es ≡ []
-is_empty [] n e z = refl
-is_empty (x ∷ es) n e z = absurd (omega arith)
-
-pub none_left : (level used n : ℕ) (es : List Entry) (free : List ℕ) (path : ArrayVec ℕ) (m : Image) → n ≡ length es → n ≡ 0 → PlacesLeft m level es free used (Ok (record { page = None; trade = record { used = used; path = path } })) m
-none_left level used n es free path m e z =
-    subst (λ (x : List Entry). PlacesLeft m level x free used (Ok (record { page = None; trade = record { used = used; path = path } })) m) (sym (is_empty es n e z))
-    (record { part = refl; rest = refl; uses = omega arith }, wrote_none m m refl)
 
 -- from a free list with a page in front
 at_front : (level used p : ℕ) (e : Entry) (es : List Entry) (free : List ℕ) (m m' : Image) (r : Result Left Fault) → used < length free → p ≡ get_or free used 0
@@ -32,8 +22,3 @@ pub left_written : (level used next p n : ℕ) (es : List Entry) (free : List �
 left_written level used next p n [] free path m m' u k some h q w = absurd (some k)
 left_written level used next p n (e ∷ es) free path m m' u k some h q w =
     at_front level used p e es free m m' (Ok (record { page = Some p; trade = record { used = next; path = path } })) h q (record { part = refl; rest = ap (λ (x : ℕ). drop x free) u; uses = u }, w)
-
-pub left_refused : (level used p n : ℕ) (es : List Entry) (free : List ℕ) (m m' : Image) (f : Fault) → n ≡ length es → (n ≡ 0 → ⊥) → used < length free → p ≡ get_or free used 0
-    → WritesPage m level p es (Err f) m' → PlacesLeft m level es free used (Err f) m'
-left_refused level used p n [] free m m' f k some h q w = absurd (some k)
-left_refused level used p n (d ∷ es) free m m' f k some h q w = at_front level used p d es free m m' (Err f) h q w

@@ -1,13 +1,9 @@
 use Rattle.std.proofs.Common.{arith}
 use Rattle.std.proofs.lemmas.Result.{err_from_is_err_and}
-use Rattle.records.specs.Free.{numbers}
 use Rattle.paths.proofs.LodgeClimbing.{lodge_room}
 use Rattle.paths.proofs.LodgeRooting.{tree_empty, tree_fails, tree_roots}
-use Rattle.paths.proofs.LodgeKeeping.{lodge_is, lodge_above}
+use Rattle.paths.proofs.LodgeKeeping.{lodge_is}
 use Rattle.paths.proofs.lodge.lodge.Goals as goal
-
-pub returns-then-root-gt6 : goal.returns-then-root-gt6
-returns-then-root-gt6 g c = lodge_above _ c.args.root.page _ c.args.address (numbers c.args.free.now) (omega arith)
 
 pub returns-then-root-eq0 : goal.returns-then-root-eq0
 returns-then-root-eq0 g c = lodge_is _ _ _ _ _ _ _ (omega arith) (tree_empty _ _ _ _ _ _ c.first_leaf.result c.if-root-eq0.true c.first_leaf.ensures)

@@ -1,5 +1,5 @@
 use Rattle.std.proofs.lemmas.Result.{err_from_is_err_and}
-use Rattle.paths.proofs.PathsAccesses.{page_refused, page_misplaced, page_empty, page_read, read_few}
+use Rattle.paths.proofs.PathsAccesses.{page_refused, page_misplaced, page_empty, read_few}
 use Rattle.paths.proofs.page.read_page.Goals as goal
 use Rattle.std.proofs.Common.{refl}
 
@@ -13,9 +13,6 @@ returns-then-not-is_own g c = page_misplaced _ _ _ _ _ c.in_ok-fetch.ensures c.i
 
 pub returns-then-len-eq0 : goal.returns-then-len-eq0
 returns-then-len-eq0 g c = page_empty _ _ _ _ _ _ _ c.in_ok-fetch.ensures (c.if-not-is_own.ensures.0 refl) c.of_page-list.ensures c.len.ensures.is c.if-len-eq0.true
-
-pub returns : goal.returns
-returns g c = page_read _ _ _ _ _ _ _ c.in_ok-fetch.ensures (c.if-not-is_own.ensures.0 refl) c.of_page-list.ensures c.len.ensures.is c.if-len-eq0.false
 
 pub invariant_of-result : goal.invariant_of-result
 invariant_of-result g c = record { few = read_few c.fetch.new.into _ c.of_page-list.ensures }
