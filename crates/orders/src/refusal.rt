@@ -23,7 +23,13 @@ impl Refusal {
     }
 }
 
+// Why, in plain words.
 impl fmt::Display for Refusal {
+    ghost use Rattle.std.specs.Prelude.{Some};
+    ghost use Rattle.orders.specs.Refusals.{words};
+
+    ghost output = { λ r. Some (words r) };
+
     fn fmt<W: fmt::Write>(&self, f: &mut fmt::Formatter<W>) -> fmt::Result {
         f.write_str(match self {
             Refusal::SpaceRange => "a space has 1 to 4 coordinates of 1 to 15 bits",
