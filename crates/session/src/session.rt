@@ -37,13 +37,13 @@ impl Session {
 
     // The order that stands, or the one that stands where no line chose any.
     pub fn chosen(&self) -> Result<Chosen, Refusal> {
-        match self.order {
-            Some(order) => Ok(order),
-            None => Ok(Chosen {
+        let Some(order) = self.order else {
+            return Ok(Chosen {
                 kind: OrderKind::Z,
                 space: Space::new(4, 15)?,
-            }),
-        }
+            });
+        };
+        Ok(order)
     }
 
     // The number of coordinates of the space that stands.

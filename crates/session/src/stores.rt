@@ -76,8 +76,8 @@ pub fn set_store<'s, 't>(
     lines: &'s [&'t str],
 ) -> anyhow::Result<(Memory, &'s [&'t str])> {
     let (made, left) = part(lines, |line| store_line(rt, session, line))?;
-    match made {
-        Some(memory) => Ok((memory, left)),
-        None => Ok((filled(rt.alloc(), 1024, 0)?, left)),
-    }
+    let Some(memory) = made else {
+        return Ok((filled(rt.alloc(), 1024, 0)?, left));
+    };
+    Ok((memory, left))
 }
