@@ -14,7 +14,7 @@ contents m = λ p. content_of (slice_index_or m.pages (p - 1) [])
 
 -- a refusal is told as a fault, with the page and its level
 abbrev pub access : ℕ → ℕ → StoreFault → Access
-access p level fault = record { page = p; level = level; fault = fault }
+access p level fault = record { at = record { page = p; level = level }; fault = fault }
 
 abbrev pub Fetches : Image → ℕ → ℕ → List ℕ → Result (Unit {0}) Fault → Image → List ℕ → Type 0
 Fetches m p level old (Ok u) m' new = Reads m p old (Ok u) m' new

@@ -30,7 +30,7 @@ fault_number is_uncharged = 2
 
 -- page, level and the store's own fault
 abbrev pub access_values : Access → List ℕ
-access_values a = a.page ∷ a.level ∷ fault_number a.fault ∷ []
+access_values a = a.at.page ∷ a.at.level ∷ fault_number a.fault ∷ []
 
 abbrev pub values_of : Fault → List ℕ
 values_of Shut = []

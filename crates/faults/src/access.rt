@@ -9,18 +9,16 @@ use pages::store::PageStore;
 pub fn fetch<S: PageStore>(store: &mut S, at: PageRef, into: &mut [u8; 128]) -> Result<(), Fault>
     ensures { Fetches (S.meaning store.old) at.page at.level into.old result (S.meaning store.new) into.new }
 {
-    let PageRef { page, level } = at;
     store
-        .read(page, into)
-        .map_err(|fault| Fault::of_read(Access { page, level, fault }))
+        .read(at.page, into)
+        .map_err(|fault| Fault::of_read(Access { at, fault }))
 }
 
 // Replaces the whole of the page.
 pub fn put<S: PageStore>(store: &mut S, at: PageRef, from: &[u8; 128]) -> Result<(), Fault>
     ensures { Stores (S.meaning store.old) at.page at.level from.now result (S.meaning store.new) }
 {
-    let PageRef { page, level } = at;
     store
-        .write(page, from)
-        .map_err(|fault| Fault::of_write(Access { page, level, fault }))
+        .write(at.page, from)
+        .map_err(|fault| Fault::of_write(Access { at, fault }))
 }

@@ -2,15 +2,15 @@
 ghost use Rattle.std.specs.Prelude.{◌≡◌, Some};
 ghost use Rattle.faults.specs.Refusals.{number_of, words, unread, unwritten};
 
+use layout::page_ref::PageRef;
 use layout::visit::Rule;
 use pages::fault::StoreFault;
 use std::fmt;
 
-// The store's own fault, whole, with the page that was asked for and its level, 0 for the header.
+// The store's own fault, whole, with the page that was asked for.
 #[derive(Clone, Copy, PartialEq, Eq, Debug)]
 pub struct Access {
-    pub page: u16,
-    pub level: u8,
+    pub at: PageRef,
     pub fault: StoreFault,
 }
 

@@ -72,7 +72,7 @@ module _ (o : Order) (m : Image) (k : Known) (f : Filed) (free : List ℕ) (hold
 
   -- the header is refused for want of charge: page 1 is there
   unpaid : (g : Copied) (m' m'' : Image) (fault : StoreFault) (bytes : List ℕ) → MadeCopy o m f free t total g m' → Copy (Ok g) m' → Writes m' 1 bytes (Err fault) m'' →
-      Goes o (filed f) (state m k) (refusal (unwritten (record { page = 1; level = 0; fault = fault }))) (state m'' k) call
+      Goes o (filed f) (state m k) (refusal (unwritten (record { at = record { page = 1; level = 0 }; fault = fault }))) (state m'' k) call
   unpaid g m' m'' Absent bytes made copy w =
       let there = subst (λ (n : ℕ). 1 ≤ n) (sym made.size) holds.there in
       elim w.0 [ inl e ↦ absurd (omega arith) | inr lt ↦ absurd (omega arith) ]

@@ -26,7 +26,7 @@ use Rattle.index.specs.Opening.{Opening, ReadsOurs}
 use Rattle.index.specs.Opening.Opening.{absent, uncharged, no_header, other_order, unread, breaks, opens_on}
 
 module _ (o : Order) (m : Image) (k : Known) (work : ℕ) where
-  at_page_one : (f : StoreFault) (m' : Image) → 64 ≤ work → Reads m 1 [] (Err f) m' [] → Opening o (state m k) work (refusal (unread_at (record { page = 1; level = 0; fault = f }))) (state m' shut)
+  at_page_one : (f : StoreFault) (m' : Image) → 64 ≤ work → Reads m 1 [] (Err f) m' [] → Opening o (state m k) work (refusal (unread_at (record { at = record { page = 1; level = 0 }; fault = f }))) (state m' shut)
   at_page_one is_absent m' records r =
       let gone : length m.pages ≡ 0 = elim r.0 [ inl e ↦ absurd (omega arith) | inr lt ↦ omega arith ] in
       absent records gone refl (λ i. state (r.2 i) shut)
@@ -35,7 +35,7 @@ module _ (o : Order) (m : Image) (k : Known) (work : ℕ) where
   -- 8 to 11
   pub no_head : (f : Fault) (m' : Image) → 64 ≤ work → NoHead o m f m' → Opening o (state m k) work (refusal f) (state m' shut)
   no_head f m' records (refused x told page level r) =
-      let e : f ≡ unread_at (record { page = 1; level = 0; fault = x.fault }) = told ∙ (λ i. unread_at (record { page = page i; level = level i; fault = x.fault })) in
+      let e : f ≡ unread_at (record { at = record { page = 1; level = 0 }; fault = x.fault }) = told ∙ (λ i. unread_at (record { at = record { page = page i; level = level i }; fault = x.fault })) in
       subst (λ (y : Fault). Opening o (state m k) work (refusal y) (state m' shut)) (sym e) (at_page_one x.fault m' records r)
   no_head f m' records (none told got never) = no_header records got.there got.charged never (ap refusal told) (λ i. state (got.spends i) shut)
   no_head f m' records (other h told got says foreign) =
@@ -52,7 +52,7 @@ module _ (o : Order) (m : Image) (k : Known) (work : ℕ) where
   scan_refused h (Unsound p r) m' marks got (records, low, (left, e, em)) =
       breaks h p r left got (rw same_last at e) refl (λ i. state (em i) shut)
   scan_refused h (Unread a) m' marks got (records, low, (p, level, e, at, em)) =
-      unread h p level got (rw same_last at e) (λ i. refusal (Unread (record { page = at.0 i; level = at.1 i; fault = at.2 i }))) (λ i. state (em i) shut)
+      unread h p level got (rw same_last at e) (λ i. refusal (Unread (record { at = record { page = at.0 i; level = at.1 i }; fault = at.2 i }))) (λ i. state (em i) shut)
   scan_refused h _ m' marks got s = absurd s.2
 
 -- a page is new just where it is not among those seen

@@ -52,13 +52,13 @@ formats_memory o m m' k free w ef =
     (record { size = length-set m.pages 0 (header_bytes (header_for o empty_file)); exact = λ c h. record { next = filed empty_file; kept = empty_holds o m le; does = formatted le w.1 refl refl refl } }))
 
 refuses_format : (o : Order) (m : Image) (k : Known) (bytes : List ℕ) (f : StoreFault) (m' : Image) → Writes m 1 bytes (Err f) m' →
-    Step o (state m k) (refusal (unwritten (record { page = 1; level = 0; fault = f }))) (state m' k) formats
+    Step o (state m k) (refusal (unwritten (record { at = record { page = 1; level = 0 }; fault = f }))) (state m' k) formats
 refuses_format o m k bytes Absent m' w =
     let none : length m.pages ≡ 0 = elim w.0 [ inl e ↦ absurd (omega arith) | inr lt ↦ omega arith ] in
-    subst (λ (x : Image). Step o (state m k) (refusal (unwritten (record { page = 1; level = 0; fault = Absent }))) (state x k) formats) (sym w.1)
+    subst (λ (x : Image). Step o (state m k) (refusal (unwritten (record { at = record { page = 1; level = 0 }; fault = Absent }))) (state x k) formats) (sym w.1)
     (record { size = refl; exact = λ c h. record { next = c; kept = h; does = format_absent none refl refl refl } })
 refuses_format o m k bytes Uncharged m' w =
-    subst (λ (x : Image). Step o (state m k) (refusal (unwritten (record { page = 1; level = 0; fault = Uncharged }))) (state x k) formats) (sym w.2)
+    subst (λ (x : Image). Step o (state m k) (refusal (unwritten (record { at = record { page = 1; level = 0 }; fault = Uncharged }))) (state x k) formats) (sym w.2)
     (record { size = refl; exact = λ c h. record { next = c; kept = h; does = format_uncharged w.0.1 w.1 refl refl refl } })
 
 pub format_refused : (o : Order) (m m' : Image) (k : Known) (f : Fault) → WritesHead o m 0 0 0 (Err f) m' → Step o (state m k) (refusal f) (state m' k) formats

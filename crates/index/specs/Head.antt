@@ -25,7 +25,7 @@ pub record Says (m : Image) (h : Header) : Type 0 where
 
 -- no header of this order was read: the store refuses, or page 1 is no header, or it is of another order
 pub data NoHead (o : Order) (m : Image) (f : Fault) (m' : Image) : Type 0 where
-  refused : (x : Access) → f ≡ unread x → x.page ≡ 1 → x.level ≡ 0 → Reads m 1 [] (Err x.fault) m' [] → NoHead o m f m'
+  refused : (x : Access) → f ≡ unread x → x.at.page ≡ 1 → x.at.level ≡ 0 → Reads m 1 [] (Err x.fault) m' [] → NoHead o m f m'
   none : f ≡ NoHeader → Got m m' → ((h : Header) → Proper h → at m 1 ≢ header_bytes h) → NoHead o m f m'
   other : (h : Header) → f ≡ OtherOrder → Got m m' → Says m h → (Ours o h → ⊥) → NoHead o m f m'
 

@@ -24,12 +24,12 @@ Keys (suc (suc l)) start end es = InnerKeys start end es
 -- Well formed: all rules hold. A letter: that rule is broken, and those before it hold. Levels begin at 1, so no page is right for level 0.
 -- Of a page by itself A and F say nothing, so they are never answered.
 abbrev pub Checks : Visit → Content → Result (Unit {0}) Rule → Type 0
-Checks v c (Ok x) = Own v.page v.level c × Filled c × Keys v.level v.lo v.hi c.entries
+Checks v c (Ok x) = Own v.at.page v.at.level c × Filled c × Keys v.at.level v.lo v.hi c.entries
 Checks v c (Err A) = ⊥
-Checks v c (Err B) = Own v.page v.level c → v.level ≡ 0
-Checks v c (Err C) = Own v.page v.level c × (1 ≤ v.level) × (Filled c → ⊥)
-Checks v c (Err D) = Own v.page v.level c × (v.level ≡ 1) × Filled c × (LeafKeys v.lo v.hi c.entries → ⊥)
-Checks v c (Err E) = Own v.page v.level c × (2 ≤ v.level) × Filled c × (InnerKeys v.lo v.hi c.entries → ⊥)
+Checks v c (Err B) = Own v.at.page v.at.level c → v.at.level ≡ 0
+Checks v c (Err C) = Own v.at.page v.at.level c × (1 ≤ v.at.level) × (Filled c → ⊥)
+Checks v c (Err D) = Own v.at.page v.at.level c × (v.at.level ≡ 1) × Filled c × (LeafKeys v.lo v.hi c.entries → ⊥)
+Checks v c (Err E) = Own v.at.page v.at.level c × (2 ≤ v.at.level) × Filled c × (InnerKeys v.lo v.hi c.entries → ⊥)
 Checks v c (Err F) = ⊥
 
 -- the least key that may follow; none where no u64 may

@@ -1,5 +1,5 @@
 // Which page is meant, and the level that it must have: 1 for a leaf, the tree's height for its root, 0 for the header.
-#[derive(Clone, Copy, PartialEq, Eq, Debug)]
+#[derive(Clone, Copy, PartialEq, Eq, Debug, Default)]
 pub struct PageRef {
     pub page: u16,
     pub level: u8,

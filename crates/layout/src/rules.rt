@@ -15,13 +15,13 @@ pub fn check_page(page: &[u8; 128], visit: Visit) -> Result<(), Rule>
     ensures { Checks visit (content_of page.now) result }
 {
     let reader = PageReader::new(page);
-    if reader.number() != visit.page || reader.level() != visit.level || visit.level == 0 {
+    if reader.number() != visit.at.page || reader.level() != visit.at.level || visit.at.level == 0 {
         return Err(Rule::B);
     }
     if !is_filled(page) {
         return Err(Rule::C);
     }
-    if visit.level == 1 {
+    if visit.at.level == 1 {
         if !rises(page, visit.lo, visit.hi) {
             return Err(Rule::D);
         }

@@ -2,13 +2,13 @@
 ghost use Rattle.std.specs.Prelude.{◌+◌, [], ◌∷◌, Some};
 ghost use Rattle.layout.specs.Rules.{letter};
 
+use crate::page_ref::PageRef;
 use std::fmt;
 
-// A page yet to visit: its number, the level it must have and its region.
-#[derive(Clone, Copy, PartialEq, Eq, Debug)]
+// A page yet to visit, at the level that it must have, and its region.
+#[derive(Clone, Copy, PartialEq, Eq, Debug, Default)]
 pub struct Visit {
-    pub page: u16,
-    pub level: u8,
+    pub at: PageRef,
     pub lo: u64,
     pub hi: u64,
 }

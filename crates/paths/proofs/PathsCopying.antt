@@ -83,7 +83,7 @@ only_short ws m m' f all u =
     let x = u.access in
     let h : Has m c.next.page = all_next (Has m) c.done c.rest c.next (subst (λ (z : List Write). AllByRecursion (Has m) (tree.written z)) c.writes all) in
     let l : length m'.pages ≡ length m.pages = ap (λ (z : Image). length z.pages) c.began.image ∙ stored_length c.done m in
-    let o = only_charge m' x.page x.fault (omega (arith, h.0, c.page), omega (arith, h.1, c.page, l)) c.refused in
+    let o = only_charge m' x.at.page x.fault (omega (arith, h.0, c.page), omega (arith, h.1, c.page, l)) c.refused in
     record {
       access = x;
       told = u.told ∙ unwritten_is x o.0;

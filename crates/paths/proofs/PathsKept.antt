@@ -56,8 +56,8 @@ expected m limit total top s a d q v k t =
 misread_at : (m m' : Image) (limit total top : ℕ) (s : State) (a : ℕ) (f : Fault) → Kept (contents m) limit total top s → limit ≤ length m.pages
     → Misread m s.height (root_of s.tree) a f m' → OnlyCharge m s a f m'
 misread_at m m' limit total top s a f k l (refused d x e t c r i) =
-    let y = expected m limit total top s a d x.page x.level k t in
-    let o = only_charge (after_reads m d) x.page x.fault (omega (arith, y.low), omega (arith, y.high)) r in
+    let y = expected m limit total top s a d x.at.page x.at.level k t in
+    let o = only_charge (after_reads m d) x.at.page x.fault (omega (arith, y.low), omega (arith, y.high)) r in
     let z : d ≡ m.charge = omega (arith, c, o.1) in
     record {
       access = x;

@@ -26,8 +26,8 @@ here m l p a q v h e k = record { within = omega arith; page = e ∙ path_first 
 -- the first page of the path stops the reading
 pub misread_here : (m m' : Image) (l p a : ℕ) (f : Fault) → 1 ≤ l → UnreadPage m p l f m' → Misread m l p a f m'
 misread_here m m' l p a f h (at_store x e q v r s) =
-    refused 0 x e (here m l p a x.page x.level h q v) (omega arith)
-    (subst (λ (z : Image). Refuses z x.page x.fault) (after_none m) (subst (λ (y : ℕ). Refuses m y x.fault) (sym q) r)) (s ∙ after_none m)
+    refused 0 x e (here m l p a x.at.page x.at.level h q v) (omega arith)
+    (subst (λ (z : Image). Refuses z x.at.page x.fault) (after_none m) (subst (λ (y : ℕ). Refuses m y x.fault) (sym q) r)) (s ∙ after_none m)
 misread_here m m' l p a f h (at_page r e c b s) = broken 0 p l r e (here m l p a p l h refl refl) (omega arith) b s
 
 stopped_below : (m : Image) (h p a d q v : ℕ) → Stopped (spent m) (suc h) (pick (contents m p).entries a) a d q v → Stopped m (suc (suc h)) p a (suc d) q v
@@ -36,8 +36,8 @@ stopped_below m h p a d q v s = record { within = omega (arith, s.within); page 
 
 below : (m m' : Image) (h p a : ℕ) (f : Fault) → 0 < m.charge → Misread (spent m) (suc h) (pick (contents m p).entries a) a f m' → Misread m (suc (suc h)) p a f m'
 below m m' h p a f c (refused d x e s k r i) =
-    refused (suc d) x e (stopped_below m h p a d x.page x.level s) (omega arith)
-    (subst (λ (z : Image). Refuses z x.page x.fault) (after_more m d) r) (i ∙ after_more m d)
+    refused (suc d) x e (stopped_below m h p a d x.at.page x.at.level s) (omega arith)
+    (subst (λ (z : Image). Refuses z x.at.page x.fault) (after_more m d) r) (i ∙ after_more m d)
 below m m' h p a f c (broken d q v r e s k b i) = broken (suc d) q v r e (stopped_below m h p a d q v s) (omega arith) b (i ∙ after_more m (suc d))
 
 -- A page of the path that was read, and the one below: what code knows when it goes down.

@@ -37,7 +37,7 @@ pub record Read (m : Image) (p level : ℕ) (es : List Entry) (m' : Image) : Typ
 
 -- a page that was not: the store refuses, or the page breaks a rule
 pub data UnreadPage (m : Image) (p level : ℕ) (f : Fault) (m' : Image) : Type 0 where
-  refused : (x : Access) → f ≡ unread x → x.page ≡ p → x.level ≡ level → Refuses m p x.fault → m' ≡ m → UnreadPage m p level f m'
+  refused : (x : Access) → f ≡ unread x → x.at.page ≡ p → x.at.level ≡ level → Refuses m p x.fault → m' ≡ m → UnreadPage m p level f m'
   broken : (r : Rule) → f ≡ Unsound p r → 0 < m.charge → Breaks (contents m) p level r → m' ≡ spent m → UnreadPage m p level f m'
 
 abbrev pub ReadsPage : Image → ℕ → ℕ → Result PageEntries Fault → Image → Type 0

@@ -22,7 +22,7 @@ pub record Stopped (m : Image) (l p a d q v : ℕ) : Type 0 where
 
 -- the reading stops at some page: the store refuses it (8 where it does not exist, 9 where the charge does not carry the read), or it breaks a rule (12)
 pub data Misread (m : Image) (l p a : ℕ) (f : Fault) (m' : Image) : Type 0 where
-  refused : (d : ℕ) (x : Access) → f ≡ unread x → Stopped m l p a d x.page x.level → d ≤ m.charge → Refuses (after_reads m d) x.page x.fault → m' ≡ after_reads m d → Misread m l p a f m'
+  refused : (d : ℕ) (x : Access) → f ≡ unread x → Stopped m l p a d x.at.page x.at.level → d ≤ m.charge → Refuses (after_reads m d) x.at.page x.fault → m' ≡ after_reads m d → Misread m l p a f m'
   broken : (d q v : ℕ) (r : Rule) → f ≡ Unsound q r → Stopped m l p a d q v → suc d ≤ m.charge → Breaks (contents m) q v r → m' ≡ after_reads m (suc d) → Misread m l p a f m'
 
 -- these are the pages of that path, the leaf's first
@@ -37,8 +37,8 @@ counted (Some n) = n
 -- Where a state is kept with this height and path, only the charge can stop the reading: at the page that it no longer carries.
 pub record RunsOut (m : Image) (height : ℕ) (path : List ℕ) (x : Access) (m' : Image) : Type 0 where
   pub short : m.charge < height
-  pub page : x.page ≡ slice_index path m.charge
-  pub level : x.level ≡ height - m.charge
+  pub page : x.at.page ≡ slice_index path m.charge
+  pub level : x.at.level ≡ height - m.charge
   pub fault : x.fault ≡ Uncharged
   pub spent : m' ≡ after_reads m m.charge
 

@@ -44,10 +44,10 @@ pub record Cut (ws : List Write) (m : Image) (x : Access) (m' : Image) : Type 0 
   pub next : Write
   pub rest : List Write
   pub writes : ws ≡ done ++ (next ∷ rest)
-  pub page : x.page ≡ next.page
-  pub level : x.level ≡ next.says.level
+  pub page : x.at.page ≡ next.page
+  pub level : x.at.level ≡ next.says.level
   pub began : Wrote done m m'
-  pub refused : Refuses m' x.page x.fault
+  pub refused : Refuses m' x.at.page x.fault
 
 -- and the refusal says where: 8 where the page does not exist, 17 where the charge does not carry the write
 pub record Unwrites (ws : List Write) (m : Image) (f : Fault) (m' : Image) : Type 0 where
@@ -62,7 +62,7 @@ pub record WritesRunOut (ws : List Write) (m : Image) (x : Access) (m' : Image) 
   pub rest : List Write
   pub writes : ws ≡ done ++ (next ∷ rest)
   pub many : length done ≡ m.charge
-  pub page : x.page ≡ next.page
-  pub level : x.level ≡ next.says.level
+  pub page : x.at.page ≡ next.page
+  pub level : x.at.level ≡ next.says.level
   pub fault : x.fault ≡ Uncharged
   pub began : Wrote done m m'

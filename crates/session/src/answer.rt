@@ -1,5 +1,6 @@
 // What a line is answered with.
-use faults::fault::{Access, Fault};
+use faults::fault::Fault;
+use layout::page_ref::PageRef;
 use orders::point::Point;
 use orders::refusal::Refusal;
 use pages::fault::StoreFault;
@@ -65,11 +66,8 @@ fn write_refused<W: fmt::Write>(f: &mut fmt::Formatter<W>, fault: Fault) -> fmt:
     let number = fault.number();
     match fault {
         Fault::Absent(access) | Fault::Unread(access) | Fault::Unwritten(access) => {
-            let Access {
-                page,
-                level,
-                fault: own,
-            } = access;
+            let PageRef { page, level } = access.at;
+            let own = access.fault;
             write!(
                 f,
                 "refused {number} page {page} level {level} {own}: {fault}"

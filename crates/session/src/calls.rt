@@ -21,13 +21,7 @@ fn open<S: PageStore, O: PointOrder>(
     index: &mut Index<S, O>,
     records: u32,
 ) -> Result<Answer, AllocError> {
-    let blank = Visit {
-        page: 0,
-        level: 0,
-        lo: 0,
-        hi: 0,
-    };
-    let mut work = vec![in heap; blank; records.min(MOST_WORK) as usize]?;
+    let mut work = vec![in heap; Visit::default(); records.min(MOST_WORK) as usize]?;
     Ok(done(index.open(work.as_mut_slice())))
 }
 

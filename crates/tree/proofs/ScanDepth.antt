@@ -9,7 +9,7 @@ use Rattle.tree.specs.ScanRules.{Expands, Passes, ScanState, scan_state, Leads}
 -- the page itself makes room for one of its ten children.
 abbrev pub StackFits : ℕ → List Visit → Type 0
 StackFits room [] = Unit {0}
-StackFits room (v ∷ st) = (1 ≤ v.level) × (9 * v.level + length (v ∷ st) ≤ room) × StackFits room st
+StackFits room (v ∷ st) = (1 ≤ v.at.level) × (9 * v.at.level + length (v ∷ st) ≤ room) × StackFits room st
 
 length_visits : (l : ℕ) (st : List Visit) (es : List Entry) (lo hi : ℕ) → length (child_visits l lo hi es ++ st) ≡ length es + length st
 length_visits l st [] lo hi = omega arith
@@ -32,7 +32,7 @@ fits_expand room (suc (suc k)) lo hi n es vs st o z h f =
 pub fits_pass : (m : Contents) (limit room charge : ℕ) (marks : List ℕ) (v : Visit) (st : List Visit) (n : ℕ) (vs : List Visit) →
     StackFits room (v ∷ st) → Passes m limit charge marks v n vs → StackFits room (vs ++ st)
 fits_pass m limit room charge marks v st n vs f p =
-    fits_expand room v.level v.lo v.hi n (m v.page).entries vs st p.expands p.filled.0.1 f.1 f.2
+    fits_expand room v.at.level v.lo v.hi n (m v.at.page).entries vs st p.expands p.filled.0.1 f.1 f.2
 
 pub fits_leads : (m : Contents) (limit room k : ℕ) (s t : ScanState) → StackFits room s.stack → Leads m limit k s t → StackFits room t.stack
 fits_leads m limit room zero s t f h = subst (λ u. StackFits room u.stack) h f
@@ -40,7 +40,7 @@ fits_leads m limit room (suc k) s t f h =
     let v = h.0 in
     let st = h.1 in
     let g : StackFits room (v ∷ st) = subst (λ us. StackFits room us) h.4 f in
-    fits_leads m limit room k (scan_state (s.charge - 1) (v.page ∷ s.marks) (h.3 ++ st) (s.sum + h.2)) t (fits_pass m limit room s.charge s.marks v st h.2 h.3 g h.5) h.6
+    fits_leads m limit room k (scan_state (s.charge - 1) (v.at.page ∷ s.marks) (h.3 ++ st) (s.sum + h.2)) t (fits_pass m limit room s.charge s.marks v st h.2 h.3 g h.5) h.6
 
 -- the stack of a scan from a root at level h
 pub fits_start : (height root top : ℕ) → StackFits (9 * height + 1) (start height root top)

@@ -45,15 +45,15 @@ refused_at_first_unsound m limit charge height root total top p r left e =
 
 -- one visit that breaks a rule, with a charge for its read: it is refused, unless the fuel is used up
 broken_refused : (m : Contents) (limit fuel charge : ℕ) (marks : List ℕ) (v : Visit) (stack : List Visit) (sum : ℕ) (r : Rule) → (Keeps m limit marks v r → ⊥) →
-    (Admitted limit marks v.page → 1 ≤ charge) →
-    (scan fuel m limit charge marks (v ∷ stack) sum ≡ unfinished) ⊎ ((x : Rule) × (scan fuel m limit charge marks (v ∷ stack) sum ≡ refused v.page x (left_at x charge)))
+    (Admitted limit marks v.at.page → 1 ≤ charge) →
+    (scan fuel m limit charge marks (v ∷ stack) sum ≡ unfinished) ⊎ ((x : Rule) × (scan fuel m limit charge marks (v ∷ stack) sum ≡ refused v.at.page x (left_at x charge)))
 unfolding scan
 broken_refused m limit zero charge marks v stack sum r n c = inl refl
 broken_refused m limit (suc f) charge marks v stack sum r n c = go (turn m limit charge marks v) refl
   where
     go : (t : Turn) → turn m limit charge marks v ≡ t →
         (follow charge v (turn m limit charge marks v) (next f m limit charge marks v stack sum) ≡ unfinished)
-        ⊎ ((x : Rule) × (follow charge v (turn m limit charge marks v) (next f m limit charge marks v stack sum) ≡ refused v.page x (left_at x charge)))
+        ⊎ ((x : Rule) × (follow charge v (turn m limit charge marks v) (next f m limit charge marks v stack sum) ≡ refused v.at.page x (left_at x charge)))
     go (breaks x) q = inr (x, ap (λ t. follow charge v t (next f m limit charge marks v stack sum)) q)
     go unpaid q = let u = turn_unpaid m limit charge marks v q in let z = u.0 in absurd (omega (arith, c u.1))
     go (onward k vs) q = absurd (n (passes_keeps m limit charge marks v k vs r (turn_forth m limit charge marks v k vs q)))
@@ -65,7 +65,7 @@ first_unsound_is_refused m limit charge height root total top v charge' marks r 
     let l = scan_leads m limit h.passed (suc limit) (begin charge height root top) (scan_state charge' marks (v ∷ h.others) h.sum) h.leads in
     elim (broken_refused m limit l.0 charge' marks v h.others h.sum r n c) [
       | inl u ↦ absurd (ends m limit (suc limit) charge [] st 0 tt tt (omega arith) (l.1 ∙ u))
-      | inr u ↦ (u.0, ap (concluded limit total) (l.1 ∙ u.1) ∙ refused_concluded limit total v.page u.0 (left_at u.0 charge'))
+      | inr u ↦ (u.0, ap (concluded limit total) (l.1 ∙ u.1) ∙ refused_concluded limit total v.at.page u.0 (left_at u.0 charge'))
     ]
 
 pub wrong_sums_are_refused : WrongSumsAreRefused

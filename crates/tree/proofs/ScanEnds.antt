@@ -16,9 +16,9 @@ module _ (m : Contents) (limit : ℕ) where
   ends zero charge marks stack sum a r h e = omega (arith, few_marks limit marks a r)
   ends (suc f) charge marks [] sum a r h e = let z : ◌≡◌ {A = ℕ} 0 1 = cc in omega arith
   ends (suc f) charge marks (v ∷ stack) sum a r h e =
-      go (λ n vs ad. ends f (charge - 1) (v.page ∷ marks) (vs ++ stack) (sum + n) (ad.1, a) (ad.0, r) (omega arith)) (turn m limit charge marks v) refl e
+      go (λ n vs ad. ends f (charge - 1) (v.at.page ∷ marks) (vs ++ stack) (sum + n) (ad.1, a) (ad.0, r) (omega arith)) (turn m limit charge marks v) refl e
     where
-      go : ((n : ℕ) (vs : List Visit) → Admitted limit marks v.page → next f m limit charge marks v stack sum n vs ≡ unfinished → ⊥) →
+      go : ((n : ℕ) (vs : List Visit) → Admitted limit marks v.at.page → next f m limit charge marks v stack sum n vs ≡ unfinished → ⊥) →
           (t : Turn) → turn m limit charge marks v ≡ t → follow charge v t (next f m limit charge marks v stack sum) ≡ unfinished → ⊥
       go ih (breaks r) q d = let z : ◌≡◌ {A = ℕ} 0 1 = cc in omega arith
       go ih unpaid q d = let z : ◌≡◌ {A = ℕ} 0 1 = cc in omega arith
@@ -31,13 +31,13 @@ module _ (m : Contents) (limit : ℕ) where
   suffices zero charge marks stack sum p level a r h e = let z : ◌≡◌ {A = ℕ} 0 1 = cc in omega arith
   suffices (suc f) charge marks [] sum p level a r h e = let z : ◌≡◌ {A = ℕ} 0 1 = cc in omega arith
   suffices (suc f) charge marks (v ∷ stack) sum p level a r h e =
-      go (λ n vs ad w. suffices f (charge - 1) (v.page ∷ marks) (vs ++ stack) (sum + n) p level (ad.1, a) (ad.0, r) (omega arith)) (turn m limit charge marks v) refl e
+      go (λ n vs ad w. suffices f (charge - 1) (v.at.page ∷ marks) (vs ++ stack) (sum + n) p level (ad.1, a) (ad.0, r) (omega arith)) (turn m limit charge marks v) refl e
     where
-      go : ((n : ℕ) (vs : List Visit) → Admitted limit marks v.page → 1 ≤ charge → next f m limit charge marks v stack sum n vs ≡ uncharged p level → ⊥) →
+      go : ((n : ℕ) (vs : List Visit) → Admitted limit marks v.at.page → 1 ≤ charge → next f m limit charge marks v stack sum n vs ≡ uncharged p level → ⊥) →
           (t : Turn) → turn m limit charge marks v ≡ t → follow charge v t (next f m limit charge marks v stack sum) ≡ uncharged p level → ⊥
       go ih (breaks x) q d = let z : ◌≡◌ {A = ℕ} 0 1 = cc in omega arith
       go ih unpaid q d =
           let s = turn_unpaid m limit charge marks v q in
           let c = s.0 in
-          omega (arith, few_marks limit (v.page ∷ marks) (s.1.1, a) (s.1.0, r))
+          omega (arith, few_marks limit (v.at.page ∷ marks) (s.1.1, a) (s.1.0, r))
       go ih (onward n vs) q d = let w = turn_forth m limit charge marks v n vs q in ih n vs w.admitted w.paid d

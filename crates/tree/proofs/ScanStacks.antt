@@ -8,7 +8,7 @@ use Rattle.tree.proofs.ScanVisits.{joined, Parted, parted}
 
 -- what is left to do after a visit that goes on
 abbrev pub next : ℕ → Contents → ℕ → ℕ → List ℕ → Visit → List Visit → ℕ → ℕ → List Visit → Outcome
-next fuel m limit charge marks v stack sum n vs = scan fuel m limit (charge - 1) (v.page ∷ marks) (vs ++ stack) (sum + n)
+next fuel m limit charge marks v stack sum n vs = scan fuel m limit (charge - 1) (v.at.page ∷ marks) (vs ++ stack) (sum + n)
 
 -- trees at the visits of a stack, with what was accepted
 pub record Found (m : Contents) (limit charge : ℕ) (marks : List ℕ) (stack : List Visit) (sum : ℕ) (seen : List ℕ) (total left : ℕ) : Type 0 where
@@ -21,9 +21,9 @@ pub record Found (m : Contents) (limit charge : ℕ) (marks : List ℕ) (stack :
 
 module _ (m : Contents) (limit : ℕ) where
   found_turn : (charge : ℕ) (marks : List ℕ) (v : Visit) (stack : List Visit) (sum : ℕ) (seen : List ℕ) (total left n : ℕ) (vs : List Visit) →
-      Passes m limit charge marks v n vs → Found m limit (charge - 1) (v.page ∷ marks) (vs ++ stack) (sum + n) seen total left → Found m limit charge marks (v ∷ stack) sum seen total left
+      Passes m limit charge marks v n vs → Found m limit (charge - 1) (v.at.page ∷ marks) (vs ++ stack) (sum + n) seen total left → Found m limit charge marks (v ∷ stack) sum seen total left
   found_turn charge marks v stack sum seen total left n vs h r =
-      let j = joined m v.level v.page v.lo v.hi n vs stack r.trees h.own h.filled h.expands r.stand in
+      let j = joined m v.at.level v.at.page v.lo v.hi n vs stack r.trees h.own h.filled h.expands r.stand in
       let pg = j.pages in
       record {
         trees = j.tree ∷ j.rest;
@@ -44,17 +44,17 @@ module _ (m : Contents) (limit : ℕ) where
       let c : charge ≡ left = cc in
       record { trees = []; stand = tt; admitted = tt; seen_is = cc; total_is = omega arith; spent = omega arith }
   found (suc f) charge marks (v ∷ stack) sum seen total left e =
-      go (λ n vs. found f (charge - 1) (v.page ∷ marks) (vs ++ stack) (sum + n) seen total left) (turn m limit charge marks v) refl e
+      go (λ n vs. found f (charge - 1) (v.at.page ∷ marks) (vs ++ stack) (sum + n) seen total left) (turn m limit charge marks v) refl e
     where
-      go : ((n : ℕ) (vs : List Visit) → next f m limit charge marks v stack sum n vs ≡ accepted seen total left → Found m limit (charge - 1) (v.page ∷ marks) (vs ++ stack) (sum + n) seen total left) →
+      go : ((n : ℕ) (vs : List Visit) → next f m limit charge marks v stack sum n vs ≡ accepted seen total left → Found m limit (charge - 1) (v.at.page ∷ marks) (vs ++ stack) (sum + n) seen total left) →
           (t : Turn) → turn m limit charge marks v ≡ t → follow charge v t (next f m limit charge marks v stack sum) ≡ accepted seen total left →
           Found m limit charge marks (v ∷ stack) sum seen total left
       go ih (breaks r) q d = let z : ◌≡◌ {A = ℕ} 0 1 = cc in absurd (omega arith)
       go ih unpaid q d = let z : ◌≡◌ {A = ℕ} 0 1 = cc in absurd (omega arith)
       go ih (onward n vs) q d = found_turn charge marks v stack sum seen total left n vs (turn_forth m limit charge marks v n vs q) (ih n vs d)
 
-  passes_from : (charge : ℕ) (marks : List ℕ) (v : Visit) (stack : List Visit) (t : Node) (ts : List Node) (k : Parted m v.page v.level v.lo v.hi stack t ts) →
-      AdmittedAll limit marks (v.page ∷ pages_all k.below) → 1 ≤ charge → Passes m limit charge marks v k.adds k.brings
+  passes_from : (charge : ℕ) (marks : List ℕ) (v : Visit) (stack : List Visit) (t : Node) (ts : List Node) (k : Parted m v.at.page v.at.level v.lo v.hi stack t ts) →
+      AdmittedAll limit marks (v.at.page ∷ pages_all k.below) → 1 ≤ charge → Passes m limit charge marks v k.adds k.brings
   passes_from charge marks v stack t ts k a c = record { admitted = a.0; paid = c; own = k.own; filled = k.filled; expands = k.expands }
 
   -- trees that stand are accepted, with fuel and charge for each page
@@ -70,12 +70,12 @@ module _ (m : Contents) (limit : ℕ) where
   accepts (suc f) charge marks [] sum (t ∷ ts) a ad lf lc = absurd a
   accepts (suc f) charge marks (v ∷ stack) sum [] a ad lf lc = absurd a
   accepts (suc f) charge marks (v ∷ stack) sum (t ∷ ts) a ad lf lc =
-      let k = parted m v.level v.page v.lo v.hi stack t ts a.0 a.1 a.2 in
+      let k = parted m v.at.level v.at.page v.lo v.hi stack t ts a.0 a.1 a.2 in
       let pg = k.pages in
       let len = ap length pg in
       let ad₁ = subst (λ ps. AdmittedAll limit marks ps) pg ad in
       let pass = passes_from charge marks v stack t ts k ad₁ (omega (arith, len)) in
-      let ih = accepts f (charge - 1) (v.page ∷ marks) (k.brings ++ stack) (sum + k.adds) k.below k.stand ad₁.1 (omega (arith, len)) (omega (arith, len)) in
+      let ih = accepts f (charge - 1) (v.at.page ∷ marks) (k.brings ++ stack) (sum + k.adds) k.below k.stand ad₁.1 (omega (arith, len)) (omega (arith, len)) in
       let s : sum + k.adds + counts_all k.below ≡ sum + counts_all (t ∷ ts) = omega (arith, k.total) in
       let c : charge - 1 - length (pages_all k.below) ≡ charge - length (pages_all (t ∷ ts)) = omega (arith, len) in
       ap (λ u. follow charge v u (next f m limit charge marks v stack sum)) (turn_back m limit charge marks v k.adds k.brings pass)
@@ -92,19 +92,19 @@ module _ (m : Contents) (limit : ℕ) where
   falls_short (suc f) charge marks [] sum (t ∷ ts) a ad lf lc = absurd a
   falls_short (suc f) charge marks (v ∷ stack) sum [] a ad lf lc = absurd a
   falls_short (suc f) zero marks (v ∷ stack) sum (t ∷ ts) a ad lf lc =
-      let k = parted m v.level v.page v.lo v.hi stack t ts a.0 a.1 a.2 in
+      let k = parted m v.at.level v.at.page v.lo v.hi stack t ts a.0 a.1 a.2 in
       let ad₁ = subst (λ ps. AdmittedAll limit marks ps) k.pages ad in (
-        v.level,
-        ap (λ u. follow 0 v u (next f m limit 0 marks v stack sum)) (unpaid_turn m limit marks v ad₁.0) ∙ ap (λ ps. uncharged (get_or ps 0 0) v.level) (sym k.pages),
+        v.at.level,
+        ap (λ u. follow 0 v u (next f m limit 0 marks v stack sum)) (unpaid_turn m limit marks v ad₁.0) ∙ ap (λ ps. uncharged (get_or ps 0 0) v.at.level) (sym k.pages),
       )
   falls_short (suc f) (suc c) marks (v ∷ stack) sum (t ∷ ts) a ad lf lc =
-      let k = parted m v.level v.page v.lo v.hi stack t ts a.0 a.1 a.2 in
+      let k = parted m v.at.level v.at.page v.lo v.hi stack t ts a.0 a.1 a.2 in
       let pg = k.pages in
       let len = ap length pg in
       let ad₁ = subst (λ ps. AdmittedAll limit marks ps) pg ad in
       let pass = passes_from (suc c) marks v stack t ts k ad₁ (omega arith) in
       let one : suc c - 1 ≡ c = omega arith in
-      let ih = falls_short f (suc c - 1) (v.page ∷ marks) (k.brings ++ stack) (sum + k.adds) k.below k.stand ad₁.1 (omega (arith, len)) (omega (arith, len)) in (
+      let ih = falls_short f (suc c - 1) (v.at.page ∷ marks) (k.brings ++ stack) (sum + k.adds) k.below k.stand ad₁.1 (omega (arith, len)) (omega (arith, len)) in (
         ih.0,
         ap (λ u. follow (suc c) v u (next f m limit (suc c) marks v stack sum)) (turn_back m limit (suc c) marks v k.adds k.brings pass)
             ∙ ih.1

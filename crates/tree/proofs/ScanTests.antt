@@ -25,10 +25,10 @@ unfolding admits
 admits_decides limit marks p =
     Decides-and (leb 2 p && leb p limit) (absent p marks) (Decides-and (leb 2 p) (leb p limit) (decides_leb 2 p) (decides_leb p limit)) (absent_decides p marks)
 
-pub own_decides : (c : Content) (v : Visit) → Decides (own c v) (Own v.page v.level c)
+pub own_decides : (c : Content) (v : Visit) → Decides (own c v) (Own v.at.page v.at.level c)
 unfolding own
 own_decides c v =
-    Decides-and (eqb c.number v.page) (eqb c.level v.level) (Decides-eqb c.number v.page) (Decides-eqb c.level v.level)
+    Decides-and (eqb c.number v.at.page) (eqb c.level v.at.level) (Decides-eqb c.number v.at.page) (Decides-eqb c.level v.at.level)
 
 pub filled_decides : (c : Content) → Decides (filled c) (Filled c)
 unfolding filled

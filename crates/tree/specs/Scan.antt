@@ -9,7 +9,7 @@ pub use Rattle.layout.specs.declared.visit.Rule.TheVariants.{A, B, C, D, E, F}
 use Rattle.tree.specs.Tree.{Contents, counts}
 
 abbrev pub visit : ℕ → ℕ → ℕ → ℕ → Visit
-visit p level lo hi = record { page = p; level = level; lo = lo; hi = hi }
+visit p level lo hi = record { at = record { page = p; level = level }; lo = lo; hi = hi }
 
 -- How a scan ends. `accepted`: the pages read, the newest first; the sum of their counts; the charge left.
 -- `refused`: the page, a rule that it breaks, the charge left. `uncharged`: the page that could not be read and its level; no charge is left.
@@ -38,7 +38,7 @@ admits limit marks p = (nat_le 2 p && nat_le p limit) && absent p marks
 
 -- B: own number and level
 unfoldable pub own : Content → Visit → Bool
-own c v = c.number == v.page && c.level == v.level
+own c v = c.number == v.at.page && c.level == v.at.level
 
 -- C: 1 to 10 entries, and zeros where zeros belong
 unfoldable pub filled : Content → Bool
@@ -69,7 +69,7 @@ expand (suc (suc n)) lo hi es = cond (inner_keys lo hi es) (onward 0 (child_visi
 
 -- a page that was read
 unfoldable pub judged : Content → Visit → Turn
-judged c v = cond (own c v) (cond (filled c) (expand v.level v.lo v.hi c.entries) (breaks C)) (breaks B)
+judged c v = cond (own c v) (cond (filled c) (expand v.at.level v.lo v.hi c.entries) (breaks C)) (breaks B)
 
 -- a read takes one charge
 abbrev pub charged : ℕ → Turn → Turn
@@ -78,7 +78,7 @@ charged (suc charge) t = t
 
 -- one turn: rule A, then the read, then what the page says
 unfoldable pub turn : Contents → ℕ → ℕ → List ℕ → Visit → Turn
-turn m limit charge marks v = cond (admits limit marks v.page) (charged charge (judged (m v.page) v)) (breaks A)
+turn m limit charge marks v = cond (admits limit marks v.at.page) (charged charge (judged (m v.at.page) v)) (breaks A)
 
 -- the charge left where a visit breaks a rule: A is asked before the read, the others after it
 abbrev pub left_at : Rule → ℕ → ℕ
@@ -90,8 +90,8 @@ left_at E charge = charge - 1
 left_at F charge = charge
 
 abbrev pub follow : ℕ → Visit → Turn → (ℕ → List Visit → Outcome) → Outcome
-follow charge v (breaks r) next = refused v.page r (left_at r charge)
-follow charge v unpaid next = uncharged v.page v.level
+follow charge v (breaks r) next = refused v.at.page r (left_at r charge)
+follow charge v unpaid next = uncharged v.at.page v.at.level
 follow charge v (onward n vs) next = next n vs
 
 -- The scan. `marks` has the pages read so far, `sum` their counts; the first number is the fuel: how many turns may be made.
@@ -99,7 +99,7 @@ unfoldable pub scan : ℕ → Contents → ℕ → ℕ → List ℕ → List Vis
 scan zero m limit charge marks stack sum = unfinished
 scan (suc fuel) m limit charge marks [] sum = accepted marks sum charge
 scan (suc fuel) m limit charge marks (v ∷ stack) sum =
-    follow charge v (turn m limit charge marks v) (λ n vs. scan fuel m limit (charge - 1) (v.page ∷ marks) (vs ++ stack) (sum + n))
+    follow charge v (turn m limit charge marks v) (λ n vs. scan fuel m limit (charge - 1) (v.at.page ∷ marks) (vs ++ stack) (sum + n))
 
 -- the root's visit, over the region 0 to top; an empty tree (height 0) has none
 abbrev pub start : ℕ → ℕ → ℕ → List Visit

@@ -36,15 +36,15 @@ abbrev pub RefusedAtFirstUnsound : Type 0
 RefusedAtFirstUnsound = (m : Contents) (limit charge height root total top p : ℕ) (r : Rule) (left : ℕ) →
     opened m limit charge height root total top ≡ refused p r left →
     ((v : Visit) × (charge' : ℕ) × (marks : List ℕ) × Reaches m limit (begin charge height root top) v charge' marks
-    × (v.page ≡ p) × (Keeps m limit marks v r → ⊥) × ((r ≡ A) ⊎ (Admitted limit marks p × (1 ≤ charge'))) × (left ≡ left_at r charge'))
+    × (v.at.page ≡ p) × (Keeps m limit marks v r → ⊥) × ((r ≡ A) ⊎ (Admitted limit marks p × (1 ≤ charge'))) × (left ≡ left_at r charge'))
     ⊎ ((r ≡ F) × (p ≡ 1) × (ts : List Node) × StandAll m (start height root top) ts × AdmittedAll limit [] (pages_all ts)
     × (charge ≡ left + length (pages_all ts)) × (SumsHold limit total ts → ⊥))
 
 -- the first visit that breaks a rule is refused, where its read is paid for or A is broken
 abbrev pub FirstUnsoundIsRefused : Type 0
 FirstUnsoundIsRefused = (m : Contents) (limit charge height root total top : ℕ) (v : Visit) (charge' : ℕ) (marks : List ℕ) (r : Rule) →
-    Reaches m limit (begin charge height root top) v charge' marks → (Keeps m limit marks v r → ⊥) → (Admitted limit marks v.page → 1 ≤ charge') →
-    (x : Rule) × (opened m limit charge height root total top ≡ refused v.page x (left_at x charge'))
+    Reaches m limit (begin charge height root top) v charge' marks → (Keeps m limit marks v r → ⊥) → (Admitted limit marks v.at.page → 1 ≤ charge') →
+    (x : Rule) × (opened m limit charge height root total top ≡ refused v.at.page x (left_at x charge'))
 
 -- where all pages pass, but sums or room are wrong, F is refused at page 1 after the last read
 abbrev pub WrongSumsAreRefused : Type 0
@@ -62,7 +62,7 @@ abbrev pub UnchargedAtPage : Type 0
 UnchargedAtPage = (m : Contents) (limit charge height root total top p level : ℕ) →
     opened m limit charge height root total top ≡ uncharged p level →
     (v : Visit) × (marks : List ℕ) × Reaches m limit (begin charge height root top) v 0 marks
-    × (v.page ≡ p) × (v.level ≡ level) × Admitted limit marks p
+    × (v.at.page ≡ p) × (v.at.level ≡ level) × Admitted limit marks p
 
 -- then a sound tree, if there is one, has more pages than the charge
 abbrev pub UnchargedIsShort : Type 0

@@ -11,11 +11,11 @@ Admitted limit marks p = ((2 ≤ p) × (p ≤ limit)) × Absent p marks
 
 -- that a visit keeps a rule, by the letter; F is asked of no visit
 abbrev pub Keeps : Contents → ℕ → List ℕ → Visit → Rule → Type 0
-Keeps m limit marks v A = Admitted limit marks v.page
-Keeps m limit marks v B = Own v.page v.level (m v.page)
-Keeps m limit marks v C = FilledPage (m v.page)
-Keeps m limit marks v D = v.level ≡ 1 → LeafKeys v.lo v.hi (m v.page).entries
-Keeps m limit marks v E = 2 ≤ v.level → InnerKeys v.lo v.hi (m v.page).entries
+Keeps m limit marks v A = Admitted limit marks v.at.page
+Keeps m limit marks v B = Own v.at.page v.at.level (m v.at.page)
+Keeps m limit marks v C = FilledPage (m v.at.page)
+Keeps m limit marks v D = v.at.level ≡ 1 → LeafKeys v.lo v.hi (m v.at.page).entries
+Keeps m limit marks v E = 2 ≤ v.at.level → InnerKeys v.lo v.hi (m v.at.page).entries
 Keeps m limit marks v F = Unit {0}
 
 -- D or E by the level, and what the page brings: its counts, or the visits of its children
@@ -26,11 +26,11 @@ Expands (suc (suc k)) lo hi es n vs = InnerKeys lo hi es × (n ≡ 0) × (vs ≡
 
 -- a visit whose page is read and keeps every rule
 pub record Passes (m : Contents) (limit charge : ℕ) (marks : List ℕ) (v : Visit) (n : ℕ) (vs : List Visit) : Type 0 where
-  pub admitted : Admitted limit marks v.page
+  pub admitted : Admitted limit marks v.at.page
   pub paid : 1 ≤ charge
-  pub own : Own v.page v.level (m v.page)
-  pub filled : FilledPage (m v.page)
-  pub expands : Expands v.level v.lo v.hi (m v.page).entries n vs
+  pub own : Own v.at.page v.at.level (m v.at.page)
+  pub filled : FilledPage (m v.at.page)
+  pub expands : Expands v.at.level v.lo v.hi (m v.at.page).entries n vs
 
 -- where a scan stands between two visits
 pub record ScanState : Type 0 where
@@ -47,7 +47,7 @@ abbrev pub Leads : Contents → ℕ → ℕ → ScanState → ScanState → Type
 Leads m limit zero s t = s ≡ t
 Leads m limit (suc k) s t =
     (v : Visit) × (st : List Visit) × (n : ℕ) × (vs : List Visit) × (s.stack ≡ v ∷ st) × Passes m limit s.charge s.marks v n vs
-    × Leads m limit k (scan_state (s.charge - 1) (v.page ∷ s.marks) (vs ++ st) (s.sum + n)) t
+    × Leads m limit k (scan_state (s.charge - 1) (v.at.page ∷ s.marks) (vs ++ st) (s.sum + n)) t
 
 -- from s, visits that all passed lead to the visit v, which comes next: with this charge left and these pages reached before
 pub record Reaches (m : Contents) (limit : ℕ) (s : ScanState) (v : Visit) (charge : ℕ) (marks : List ℕ) : Type 0 where
@@ -65,7 +65,7 @@ abbrev pub StandAll : Contents → List Visit → List Node → Type 0
 StandAll m [] [] = Unit {0}
 StandAll m [] (t ∷ ts) = ⊥
 StandAll m (v ∷ st) [] = ⊥
-StandAll m (v ∷ st) (t ∷ ts) = (number t ≡ v.page) × StandsAt m t v.level v.lo v.hi × StandAll m st ts
+StandAll m (v ∷ st) (t ∷ ts) = (number t ≡ v.at.page) × StandsAt m t v.at.level v.lo v.hi × StandAll m st ts
 
 -- the pages of a list of trees in visiting order, and the sum of their counts
 abbrev pub pages_all : List Node → List ℕ

@@ -112,7 +112,7 @@ module _ {m : Contents} {limit : ℕ} {o : Outcome} {charge : ℕ} {marks : List
     next_fits : StackFits 55 (v ∷ st)
     next_fits = subst (λ xs. StackFits 55 xs) e w.fits
 
-    pub next_level : 1 ≤ v.level
+    pub next_level : 1 ≤ v.at.level
     next_level = next_fits.0
 
     pub others_few : length st ≤ 45
@@ -120,7 +120,7 @@ module _ {m : Contents} {limit : ℕ} {o : Outcome} {charge : ℕ} {marks : List
 
     -- what is left to do after it
     abbrev after : ℕ → List Visit → Outcome
-    after n vs = scan (limit - length ms) m limit (charge - 1) (v.page ∷ ms) (vs ++ st) (seen.sum + n)
+    after n vs = scan (limit - length ms) m limit (charge - 1) (v.at.page ∷ ms) (vs ++ st) (seen.sum + n)
 
     next : follow charge v (turn m limit charge ms v) after ≡ o
     unfolding scan
@@ -129,27 +129,27 @@ module _ {m : Contents} {limit : ℕ} {o : Outcome} {charge : ℕ} {marks : List
         (λ i. scan (f i) m limit charge ms (sym e i) seen.sum) ∙ w.same
 
     -- A is broken
-    pub not_admitted : (b : Bool) → Decides b ((2 ≤ v.page) × (v.page ≤ limit) × (get_or marks v.page false ≡ false)) → b ≡ false → o ≡ refused v.page A charge
+    pub not_admitted : (b : Bool) → Decides b ((2 ≤ v.at.page) × (v.at.page ≤ limit) × (get_or marks v.at.page false ≡ false)) → b ≡ false → o ≡ refused v.at.page A charge
     unfolding turn
     not_admitted b d f =
-        let none : (((2 ≤ v.page) × (v.page ≤ limit)) × NotIn v.page ms) → ⊥ =
-        (λ a. both_ways b f (d.1 (a.0.0, a.0.1, w.marked v.page ∙ ap not ((absent_decides v.page ms).1 a.1)))) in
+        let none : (((2 ≤ v.at.page) × (v.at.page ≤ limit)) × NotIn v.at.page ms) → ⊥ =
+        (λ a. both_ways b f (d.1 (a.0.0, a.0.1, w.marked v.at.page ∙ ap not ((absent_decides v.at.page ms).1 a.1)))) in
         sym next ∙ ap (λ t. follow charge v t after)
-        (cond-false (admits limit ms v.page) (charged charge (judged (m v.page) v)) (breaks A) (decided_false (admits limit ms v.page) (admits_decides limit ms v.page) none))
+        (cond-false (admits limit ms v.at.page) (charged charge (judged (m v.at.page) v)) (breaks A) (decided_false (admits limit ms v.at.page) (admits_decides limit ms v.at.page) none))
 
     -- A is kept
-    module _ (low : 2 ≤ v.page) (high : v.page ≤ limit) (new : get_or marks v.page false ≡ false) where
-      admitted : turn m limit charge ms v ≡ charged charge (judged (m v.page) v)
+    module _ (low : 2 ≤ v.at.page) (high : v.at.page ≤ limit) (new : get_or marks v.at.page false ≡ false) where
+      admitted : turn m limit charge ms v ≡ charged charge (judged (m v.at.page) v)
       unfolding turn
       admitted =
-          cond-true (admits limit ms v.page) (charged charge (judged (m v.page) v)) (breaks A)
-          ((admits_decides limit ms v.page).1 ((low, high), (absent_decides v.page ms).0 (not-false (absent v.page ms) (sym (w.marked v.page) ∙ new))))
+          cond-true (admits limit ms v.at.page) (charged charge (judged (m v.at.page) v)) (breaks A)
+          ((admits_decides limit ms v.at.page).1 ((low, high), (absent_decides v.at.page ms).0 (not-false (absent v.at.page ms) (sym (w.marked v.at.page) ∙ new))))
 
-      pub unread : charge ≡ 0 → o ≡ uncharged v.page v.level
-      unread z = sym next ∙ ap (λ t. follow charge v t after) (admitted ∙ ap (λ c. charged c (judged (m v.page) v)) z)
+      pub unread : charge ≡ 0 → o ≡ uncharged v.at.page v.at.level
+      unread z = sym next ∙ ap (λ t. follow charge v t after) (admitted ∙ ap (λ c. charged c (judged (m v.at.page) v)) z)
 
-      paid : (t : Turn) → 0 < charge → judged (m v.page) v ≡ t → turn m limit charge ms v ≡ t
-      paid t p j = let s : charge ≡ suc (charge - 1) = omega arith in admitted ∙ ap (λ c. charged c (judged (m v.page) v)) s ∙ j
+      paid : (t : Turn) → 0 < charge → judged (m v.at.page) v ≡ t → turn m limit charge ms v ≡ t
+      paid t p j = let s : charge ≡ suc (charge - 1) = omega arith in admitted ∙ ap (λ c. charged c (judged (m v.at.page) v)) s ∙ j
 
       after_read : (r : Rule) → OfPage r → left_at r charge ≡ charge - 1
       after_read A h = absurd h
@@ -159,32 +159,32 @@ module _ {m : Contents} {limit : ℕ} {o : Outcome} {charge : ℕ} {marks : List
       after_read E h = refl
       after_read F h = absurd h
 
-      pub broken : (r : Rule) → OfPage r → 0 < charge → judged (m v.page) v ≡ breaks r → o ≡ refused v.page r (charge - 1)
-      broken r h p j = sym next ∙ ap (λ t. follow charge v t after) (paid (breaks r) p j) ∙ ap (refused v.page r) (after_read r h)
+      pub broken : (r : Rule) → OfPage r → 0 < charge → judged (m v.at.page) v ≡ breaks r → o ≡ refused v.at.page r (charge - 1)
+      broken r h p j = sym next ∙ ap (λ t. follow charge v t after) (paid (breaks r) p j) ∙ ap (refused v.at.page r) (after_read r h)
 
-      marks_more : (p : ℕ) → v.page < length marks → get_or (set marks v.page true) p false ≡ not (absent p (v.page ∷ ms))
+      marks_more : (p : ℕ) → v.at.page < length marks → get_or (set marks v.at.page true) p false ≡ not (absent p (v.at.page ∷ ms))
       marks_more p l =
-          elim (cases_eq v.page p) [
-            | inl q ↦ (let t : eqb v.page p ≡ true = eq-eqb v.page p q in rw t (ap (λ x. get_or (set marks v.page true) x false) (sym q) ∙ get_or-set_same marks v.page true false l))
-            | inr n ↦ (let t : eqb v.page p ≡ false = ne_eqb v.page p n in let ne : p ≢ v.page = (λ x. n (sym x)) in rw t (get_or-set_other marks v.page p true false ne ∙ w.marked p))
+          elim (cases_eq v.at.page p) [
+            | inl q ↦ (let t : eqb v.at.page p ≡ true = eq-eqb v.at.page p q in rw t (ap (λ x. get_or (set marks v.at.page true) x false) (sym q) ∙ get_or-set_same marks v.at.page true false l))
+            | inr n ↦ (let t : eqb v.at.page p ≡ false = ne_eqb v.at.page p n in let ne : p ≢ v.at.page = (λ x. n (sym x)) in rw t (get_or-set_other marks v.at.page p true false ne ∙ w.marked p))
           ]
 
       -- the visit passes: the scan goes on
-      pub onwards : (n : ℕ) (vs stack₁ : List Visit) (charge₁ : ℕ) (seen₁ : Seen) → seen₁ ≡ added n → limit ≤ 1024 → 0 < charge → judged (m v.page) v ≡ onward n vs → stack₁ ≡ vs ++ st → charge₁ ≡ charge - 1 → n ≤ 655350 →
-          Scanning m limit o charge₁ (set marks v.page true) stack₁ seen₁ (v.page ∷ ms)
+      pub onwards : (n : ℕ) (vs stack₁ : List Visit) (charge₁ : ℕ) (seen₁ : Seen) → seen₁ ≡ added n → limit ≤ 1024 → 0 < charge → judged (m v.at.page) v ≡ onward n vs → stack₁ ≡ vs ++ st → charge₁ ≡ charge - 1 → n ≤ 655350 →
+          Scanning m limit o charge₁ (set marks v.at.page true) stack₁ seen₁ (v.at.page ∷ ms)
       onwards n vs stack₁ charge₁ seen₁ more lim p j hd ch s =
           let t : turn m limit charge ms v ≡ onward n vs = paid (onward n vs) p j in
           let ps = turn_forth m limit charge ms v n vs t in
-          let f : suc limit - length (v.page ∷ ms) ≡ limit - length ms = omega arith in
+          let f : suc limit - length (v.at.page ∷ ms) ≡ limit - length ms = omega arith in
           let sm = w.small in
           let ct = w.count in
           let lg = w.long in
-          subst (λ x. Scanning m limit o charge₁ (set marks v.page true) stack₁ x (v.page ∷ ms)) (sym more) (record {
-            same = (λ i. scan (f i) m limit (ch i) (v.page ∷ ms) (hd i) (seen.sum + n)) ∙ sym (ap (λ t. follow charge v t after) t) ∙ next;
+          subst (λ x. Scanning m limit o charge₁ (set marks v.at.page true) stack₁ x (v.at.page ∷ ms)) (sym more) (record {
+            same = (λ i. scan (f i) m limit (ch i) (v.at.page ∷ ms) (hd i) (seen.sum + n)) ∙ sym (ap (λ t. follow charge v t after) t) ∙ next;
             once = (ps.admitted.1, w.once);
             range = ((low, high), w.range);
             marked = λ q. marks_more q (omega arith);
-            long = length-set marks v.page true ∙ lg;
+            long = length-set marks v.at.page true ∙ lg;
             fits = subst (λ xs. StackFits 55 xs) (sym hd) (fits_pass m limit 55 charge ms v st n vs next_fits ps);
             count = omega arith;
             small = omega arith;
@@ -204,24 +204,24 @@ module _ (m₀ m : Image) {limit : ℕ} {o : Outcome} {marks : List Bool} {stack
   ends z = (ms, w.count, ((m.charge, finished w z, as_granted m₀ m m.charge e refl), w.marked))
 
   module _ {v : Visit} {st : List Visit} (n : stack ≡ v ∷ st) where
-    pub refused_A : (b : Bool) → Decides b ((2 ≤ v.page) × (v.page ≤ limit) × (get_or marks v.page false ≡ false)) → b ≡ false → Refuses o m₀ (Unsound v.page A) m
+    pub refused_A : (b : Bool) → Decides b ((2 ≤ v.at.page) × (v.at.page ≤ limit) × (get_or marks v.at.page false ≡ false)) → b ≡ false → Refuses o m₀ (Unsound v.at.page A) m
     refused_A b d f = (m.charge, not_admitted w n b d f, as_granted m₀ m m.charge e refl)
 
-    module _ (low : 2 ≤ v.page) (high : v.page ≤ limit) (new : get_or marks v.page false ≡ false) (size : limit ≤ length m₀.pages) where
+    module _ (low : 2 ≤ v.at.page) (high : v.at.page ≤ limit) (new : get_or marks v.at.page false ≡ false) (size : limit ≤ length m₀.pages) where
       pub visit_refused : (f : Fault) (m' : Image) (stack' : List Visit) → Visits m v st (Err f) m' stack' → Refuses o m₀ f m'
       visit_refused (Unsound p r) m' stack' h = (
         m.charge - 1,
-        broken w n low high new r h.3.1 h.0 (subst (λ (k : Contents). judged (k v.page) v ≡ breaks r) (same_contents m₀ m e) h.3.0) ∙ ap (λ q. refused q r (m.charge - 1)) (sym h.2),
+        broken w n low high new r h.3.1 h.0 (subst (λ (k : Contents). judged (k v.at.page) v ≡ breaks r) (same_contents m₀ m e) h.3.0) ∙ ap (λ q. refused q r (m.charge - 1)) (sym h.2),
         h.1 ∙ as_granted m₀ (spent m) (m.charge - 1) e refl,
       )
-      visit_refused (Unread a) m' stack' h = (v.page, v.level, unread w n low high new h.0, h.2, h.1 ∙ as_granted m₀ m 0 e h.0)
+      visit_refused (Unread a) m' stack' h = (v.at.page, v.at.level, unread w n low high new h.0, h.2, h.1 ∙ as_granted m₀ m 0 e h.0)
       visit_refused (Absent a) m' stack' h = let l = ap length e in absurd (elim h.0 [ inl z ↦ omega arith | inr z ↦ omega arith ])
       visit_refused _ m' stack' h = absurd h
 
       pub visit_passed : (k : ℕ) (m' : Image) (stack' : List Visit) (seen' : Seen) → seen' ≡ added w k → limit ≤ 1024 → Visits m v st (Ok k) m' stack' →
-          Scanning (contents m₀) limit o m'.charge (set marks v.page true) stack' seen' (v.page ∷ ms) × Same m₀ m'
+          Scanning (contents m₀) limit o m'.charge (set marks v.at.page true) stack' seen' (v.at.page ∷ ms) × Same m₀ m'
       visit_passed k m' stack' seen' more lim h =
           let j = h.2.0 in (
-            onwards w n low high new k j.0 stack' m'.charge seen' more lim h.0 (subst (λ (f : Contents). judged (f v.page) v ≡ onward k j.0) (same_contents m₀ m e) j.1) j.2 (ap (λ x. x.charge) h.1) h.2.1,
+            onwards w n low high new k j.0 stack' m'.charge seen' more lim h.0 (subst (λ (f : Contents). judged (f v.at.page) v ≡ onward k j.0) (same_contents m₀ m e) j.1) j.2 (ap (λ x. x.charge) h.1) h.2.1,
             ap (λ x. x.pages) h.1 ∙ e,
           )

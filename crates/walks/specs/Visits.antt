@@ -29,12 +29,12 @@ Judges c v stack (Err r) stack' = (judged c v ≡ breaks r) × OfPage r × (stac
 
 -- the page, its level and the fault of a read that the charge does not carry
 abbrev pub UnchargedAt : Access → ℕ → ℕ → Type 0
-UnchargedAt a p level = (a.page ≡ p) × (a.level ≡ level) × (a.fault ≡ Uncharged)
+UnchargedAt a p level = (a.at.page ≡ p) × (a.at.level ≡ level) × (a.fault ≡ Uncharged)
 
 -- The visit of a page in the memory m, which is m' after it: one charge less where the page was read.
 abbrev pub Visits : Image → Visit → List Visit → Result ℕ Fault → Image → List Visit → Type 0
-Visits m v stack (Ok n) m' stack' = (0 < m.charge) × (m' ≡ spent m) × Judges (contents m v.page) v stack (Ok n) stack'
-Visits m v stack (Err (Unsound p r)) m' stack' = (0 < m.charge) × (m' ≡ spent m) × (p ≡ v.page) × Judges (contents m v.page) v stack (Err r) stack'
-Visits m v stack (Err (Unread a)) m' stack' = (m.charge ≡ 0) × (m' ≡ m) × UnchargedAt a v.page v.level
-Visits m v stack (Err (Absent a)) m' stack' = Lacks m v.page × (m' ≡ m)
+Visits m v stack (Ok n) m' stack' = (0 < m.charge) × (m' ≡ spent m) × Judges (contents m v.at.page) v stack (Ok n) stack'
+Visits m v stack (Err (Unsound p r)) m' stack' = (0 < m.charge) × (m' ≡ spent m) × (p ≡ v.at.page) × Judges (contents m v.at.page) v stack (Err r) stack'
+Visits m v stack (Err (Unread a)) m' stack' = (m.charge ≡ 0) × (m' ≡ m) × UnchargedAt a v.at.page v.at.level
+Visits m v stack (Err (Absent a)) m' stack' = Lacks m v.at.page × (m' ≡ m)
 Visits m v stack (Err _) m' stack' = ⊥

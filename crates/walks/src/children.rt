@@ -6,6 +6,7 @@ ghost use Rattle.tree.specs.Scan.{visit, child_visits};
 ghost use Rattle.walks.specs.Pending.{to_come, HasRoom, SameSize};
 
 use layout::entry::Entry;
+use layout::page_ref::PageRef;
 use layout::visit::Visit;
 use records::tray::Tray;
 
@@ -23,8 +24,8 @@ pub(crate) fn counted(entries: &[Entry]) -> u32
 fn child_visit(v: Visit, entries: &[Entry], i: usize) -> Visit
     requires within { i < length entries.now }
     requires keys { InnerKeys v.lo v.hi entries.now }
-    requires level { 1 ≤ v.level }
-    ensures { result ≡ slice_index_or (child_visits (v.level - 1) v.lo v.hi entries.now) i (visit 0 0 0 0) }
+    requires level { 1 ≤ v.at.level }
+    ensures { result ≡ slice_index_or (child_visits (v.at.level - 1) v.lo v.hi entries.now) i (visit 0 0 0 0) }
 {
     let child = entries[i];
     let lo = if i == 0 { v.lo } else { entries[i - 1].key + 1 };
@@ -34,8 +35,10 @@ fn child_visit(v: Visit, entries: &[Entry], i: usize) -> Visit
         child.key
     };
     Visit {
-        page: child.value,
-        level: v.level - 1,
+        at: PageRef {
+            page: child.value,
+            level: v.at.level - 1,
+        },
         lo,
         hi,
     }
@@ -45,8 +48,8 @@ fn child_visit(v: Visit, entries: &[Entry], i: usize) -> Visit
 pub(crate) fn put_children(pending: &mut Tray<'_, Visit>, v: Visit, entries: &[Entry])
     requires room { HasRoom (length entries.now) pending.old }
     requires keys { InnerKeys v.lo v.hi entries.now }
-    requires level { 1 ≤ v.level }
-    ensures put { to_come pending.new ≡ child_visits (v.level - 1) v.lo v.hi entries.now ++ to_come pending.old }
+    requires level { 1 ≤ v.at.level }
+    ensures put { to_come pending.new ≡ child_visits (v.at.level - 1) v.lo v.hi entries.now ++ to_come pending.old }
     ensures size { SameSize pending.old pending.new }
 {
     for i in (0..entries.len()).rev() {

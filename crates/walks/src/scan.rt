@@ -48,19 +48,18 @@ fn scan_pages<S: PageStore>(
     let mut pending = Tray::over(work);
     if root.level > 0 {
         let _ = pending.put(Visit {
-            page: root.page,
-            level: root.level,
+            at: root,
             lo: 0,
             hi: top,
         });
     }
     let mut seen = Seen::default();
     while let Some(v) = pending.pop() {
-        if !is_new(v.page, last, marks) {
-            return Err(Fault::Unsound(v.page, Rule::A));
+        if !is_new(v.at.page, last, marks) {
+            return Err(Fault::Unsound(v.at.page, Rule::A));
         }
         let count = visit_page(store, v, &mut pending)?;
-        marks[v.page as usize] = true;
+        marks[v.at.page as usize] = true;
         seen.add(count);
     }
     Ok(seen)

@@ -8,7 +8,6 @@ use crate::children::{counted, put_children};
 use faults::access::fetch;
 use faults::fault::Fault;
 use layout::list::EntryList;
-use layout::page_ref::PageRef;
 use layout::rules::check_page;
 use layout::visit::{Rule, Visit};
 use pages::store::PageStore;
@@ -17,14 +16,14 @@ use records::tray::Tray;
 // Asks a page that was read for rules B to E. A leaf that keeps them answers the sum of its counts; an inner page puts its children's visits
 // on those that are pending, and answers 0.
 fn judge(page: &[u8; 128], v: Visit, pending: &mut Tray<'_, Visit>) -> Result<u32, Rule>
-    requires level { 1 ≤ v.level }
+    requires level { 1 ≤ v.at.level }
     requires room { HasRoom 10 pending.old }
     ensures judges { Judges (content_of page.now) v (to_come pending.old) result (to_come pending.new) }
     ensures size { SameSize pending.old pending.new }
 {
     check_page(page, v)?;
     let list = EntryList::of_page(page);
-    if v.level == 1 {
+    if v.at.level == 1 {
         return Ok(counted(list.as_slice()));
     }
     put_children(pending, v, list.as_slice());
@@ -37,16 +36,12 @@ pub(crate) fn visit_page<S: PageStore>(
     v: Visit,
     pending: &mut Tray<'_, Visit>,
 ) -> Result<u32, Fault>
-    requires level { 1 ≤ v.level }
+    requires level { 1 ≤ v.at.level }
     requires room { HasRoom 10 pending.old }
     ensures visits { Visits (S.meaning store.old) v (to_come pending.old) result (S.meaning store.new) (to_come pending.new) }
     ensures size { SameSize pending.old pending.new }
 {
     let mut page = [0; 128];
-    let at = PageRef {
-        page: v.page,
-        level: v.level,
-    };
-    fetch(store, at, &mut page)?;
-    judge(&page, v, pending).map_err(|rule| Fault::Unsound(v.page, rule))
+    fetch(store, v.at, &mut page)?;
+    judge(&page, v, pending).map_err(|rule| Fault::Unsound(v.at.page, rule))
 }

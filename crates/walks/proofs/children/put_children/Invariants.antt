@@ -8,4 +8,4 @@ abbrev pub invariant-loop-i : goal.invariant-loop-i
 invariant-loop-i l =
     (l.pending.used + l.i ≡ l.initial.pending.used + length l.entries)
     × SameSize l.initial.pending l.pending
-    × (to_come l.pending ≡ drop l.i (child_visits (l.v.level - 1) l.v.lo l.v.hi l.entries) ++ to_come l.initial.pending)
+    × (to_come l.pending ≡ drop l.i (child_visits (l.v.at.level - 1) l.v.lo l.v.hi l.entries) ++ to_come l.initial.pending)

@@ -21,4 +21,4 @@ pub returns-clause-judges : goal.returns-clause-judges
 returns-clause-judges c =
     judges_inner (content_of c.args.page.now) c.args.v _ tt _ c.in_ok-check_page.ensures (omega (arith, c.requires.level, c.if-v-eq1.false))
     (c.put_children.ensures.put
-    ∙ ap (λ es. child_visits (c.args.v.level - 1) c.args.v.lo c.args.v.hi es ++ to_come c.args.pending.now) (c.as_slice-2.ensures ∙ c.of_page-list.ensures))
+    ∙ ap (λ es. child_visits (c.args.v.at.level - 1) c.args.v.lo c.args.v.hi es ++ to_come c.args.pending.now) (c.as_slice-2.ensures ∙ c.of_page-list.ensures))
