@@ -2,9 +2,11 @@
 ghost use Rattle.std.specs.Prelude.{◌≡◌, Some};
 ghost use Rattle.faults.specs.Refusals.{number_of, words, unread, unwritten};
 
+use layout::header::NotHeader;
 use layout::page_ref::PageRef;
 use layout::visit::Rule;
 use pages::fault::StoreFault;
+use std::error::Error;
 use std::fmt;
 
 // The store's own fault, whole, with the page that was asked for.
@@ -85,6 +87,19 @@ impl Fault {
         }
     }
 }
+
+impl From<NotHeader> for Fault {
+    ghost use Rattle.std.specs.Prelude.{◌≡◌};
+    ghost use Rattle.faults.specs.declared.fault.Fault.TheVariants.{NoHeader as is_no_header};
+
+    ghost from_gives = { λ _ f. f ≡ is_no_header };
+
+    fn from(_e: NotHeader) -> Self {
+        Self::NoHeader
+    }
+}
+
+impl Error for Fault {}
 
 // Why, in plain words.
 impl fmt::Display for Fault {

@@ -1,5 +1,5 @@
 // Reading and writing the header.
-ghost use Rattle.std.specs.Prelude.{◌≡◌, ◌-◌, ◌<◌, Decides};
+ghost use Rattle.std.specs.Prelude.{◌≡◌, ◌-◌, ◌<◌, IsTrue, ◌↔◌};
 ghost use Rattle.orders.specs.Orders.{size};
 ghost use Rattle.index.specs.Head.{ReadsHead, WritesHead};
 ghost use Rattle.index.specs.Keeping.{Ours, top};
@@ -13,7 +13,7 @@ use pages::store::PageStore;
 
 // Whether a header is of this order: its kind, n and p.
 fn is_ours<O: PointOrder>(order: &O, header: &Header) -> bool
-    ensures { Decides result (Ours (O.meaning order.now) header.now) }
+    ensures { IsTrue result ↔ (Ours (O.meaning order.now) header.now) }
 {
     header.kind == order.kind() && header.n == order.n() && header.p == order.p()
 }
@@ -27,9 +27,7 @@ pub(crate) fn read_head<S: PageStore, O: PointOrder>(
 {
     let mut page = [0; 128];
     fetch(store, HEADER, &mut page)?;
-    let Ok(header) = Header::try_from(&page) else {
-        return Err(Fault::NoHeader);
-    };
+    let header = Header::try_from(&page)?;
     if !is_ours(order, &header) {
         return Err(Fault::OtherOrder);
     }

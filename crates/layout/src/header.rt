@@ -1,5 +1,5 @@
 // The header, page 1 of every index: which order it is for, and the tree's height, root and total of events.
-ghost use Rattle.std.specs.Prelude.{◌≡◌, Decides};
+ghost use Rattle.std.specs.Prelude.{◌≡◌, IsTrue, ◌↔◌};
 ghost use Rattle.layout.specs.Heads.{header_bytes, header_of, Proper, ReadsHeader};
 
 // The greatest n, p and height.
@@ -54,7 +54,7 @@ fn decode_header(page: &[u8; 128]) -> Header
 
 // Whether there is such a header.
 fn is_proper(h: Header) -> bool
-    ensures { Decides result (Proper h) }
+    ensures { IsTrue result ↔ (Proper h) }
 {
     let space = h.kind >= 1 && h.n >= 1 && h.n <= MOST_COORDINATES && h.p >= 1 && h.p <= MOST_BITS;
     let empty = h.height == 0 && h.root == 0 && h.total == 0;

@@ -1,5 +1,5 @@
 // The rules that one page can show by itself.
-ghost use Rattle.std.specs.Prelude.{◌≤◌, Decides};
+ghost use Rattle.std.specs.Prelude.{◌≤◌, IsTrue, ◌↔◌};
 ghost use Rattle.layout.specs.Bytes.{entries_of, content_of};
 ghost use Rattle.layout.specs.Content.{Filled, LeafKeys, InnerKeys};
 ghost use Rattle.layout.specs.Rules.{Checks, least};
@@ -35,7 +35,7 @@ pub fn check_page(page: &[u8; 128], visit: Visit) -> Result<(), Rule>
 
 // Rule C. The entries are encoded again, and must give the same page.
 fn is_filled(page: &[u8; 128]) -> bool
-    ensures { Decides result (Filled (content_of page.now)) }
+    ensures { IsTrue result ↔ (Filled (content_of page.now)) }
 {
     let list = EntryList::of_page(page);
     if list.len() == 0 {
@@ -51,7 +51,7 @@ fn is_filled(page: &[u8; 128]) -> bool
 
 // Rule D.
 fn rises(page: &[u8; 128], start: u64, end: u64) -> bool
-    ensures { Decides result (LeafKeys start end (entries_of page.now)) }
+    ensures { IsTrue result ↔ (LeafKeys start end (entries_of page.now)) }
 {
     let mut low = Some(start);
     for e in PageReader::new(page) {
@@ -65,14 +65,14 @@ fn rises(page: &[u8; 128], start: u64, end: u64) -> bool
 
 // Whether a leaf's entry may stand where `low` is the least key that may follow.
 fn may_follow(e: Entry, low: Option<u64>, end: u64) -> bool
-    ensures { Decides result ((least low ≤ e.key) × (e.key ≤ end) × (1 ≤ e.value)) }
+    ensures { IsTrue result ↔ ((least low ≤ e.key) × (e.key ≤ end) × (1 ≤ e.value)) }
 {
     low.is_some_and(|low| low <= e.key) && e.key <= end && e.value >= 1
 }
 
 // Rule E.
 fn divides(entries: &[Entry], start: u64, end: u64) -> bool
-    ensures { Decides result (InnerKeys start end entries.now) }
+    ensures { IsTrue result ↔ (InnerKeys start end entries.now) }
 {
     let [others @ .., last] = entries else {
         return false;

@@ -1,5 +1,5 @@
 // A block of addresses: all that begin with the same bits. Its points are a box.
-ghost use Rattle.std.specs.Prelude.{◌≡◌, ◌+◌, ◌-◌, ◌*◌, ◌^◌, ◌<◌, ◌≤◌, Decides};
+ghost use Rattle.std.specs.Prelude.{◌≡◌, ◌+◌, ◌-◌, ◌*◌, ◌^◌, ◌<◌, ◌≤◌, IsTrue, ◌↔◌};
 ghost use Rattle.orders.specs.Interleave.{point_at, lacking, Touches, Hit, Least};
 ghost use Rattle.orders.specs.Interleaved.{bits_of};
 
@@ -64,7 +64,7 @@ impl<'a, R: BitRule> Block<'a, R> {
 
     // whether the block has a point in common with the box
     fn touches(&self, b: &QueryBox) -> bool
-        ensures { let total = bits_of (R.space_of self.now.rule.now) in Decides result (Touches (lacking total (R.used_of self.now.rule.now) (total - self.now.left)) b.now.low.coords b.now.high.coords self.now.corner) }
+        ensures { let total = bits_of (R.space_of self.now.rule.now) in IsTrue result ↔ (Touches (lacking total (R.used_of self.now.rule.now) (total - self.now.left)) b.now.low.coords b.now.high.coords self.now.corner) }
     {
         let low = b.low().coords;
         let high = b.high().coords;

@@ -4,8 +4,9 @@ ghost use Rattle.orders.specs.Interleaved.{order_of};
 ghost use Rattle.orders.specs.Orders.{Order, Lawful, AddressIs, PointIs, FirstIs};
 ghost use Rattle.orders.specs.Laws.{there, back};
 
+use crate::block::Block;
 use crate::point::Point;
-use crate::rule::{BitRule, address_in, first_in, point_in};
+use crate::rule::{BitRule, address_by, point_by};
 use crate::rules::{RowRule, ZRule};
 use crate::space::{QueryBox, Space};
 
@@ -90,14 +91,27 @@ impl<R: BitRule> PointOrder for Interleaved<R> {
     }
 
     fn address(&self, x: Point) -> Option<u64> {
-        address_in(&self.rule, x)
+        if !self.rule.space().contains(x) {
+            return None;
+        }
+        Some(address_by(&self.rule, self.rule.bits(), x.coords))
     }
 
     fn point(&self, a: u64) -> Option<Point> {
-        point_in(&self.rule, a)
+        let bits = self.rule.bits();
+        if (a >> bits) != 0 {
+            return None;
+        }
+        Some(Point {
+            coords: point_by(&self.rule, bits, a),
+        })
     }
 
     fn first(&self, b: &QueryBox, from: u64) -> Option<u64> {
-        first_in(&self.rule, b, from)
+        let space = self.rule.space();
+        if !space.contains(b.low()) || !space.contains(b.high()) {
+            return None;
+        }
+        Block::whole(&self.rule).first(b, from)
     }
 }

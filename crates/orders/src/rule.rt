@@ -1,13 +1,10 @@
 // Orders whose addresses are the bits of the coordinates, dealt out by a rule.
 ghost use Rattle.std.specs.Prelude.{◌≡◌, ℕ, ◌+◌, ◌-◌, ◌*◌, ◌/◌, ◌%◌, ◌^◌, ◌<◌, ◌≤◌};
 ghost use Rattle.orders.specs.Interleave.{Schedule, point_at, address_of};
-ghost use Rattle.orders.specs.Orders.{AddressIs, PointIs, FirstIs};
-ghost use Rattle.orders.specs.Interleaved.{bits_of, order_of};
+ghost use Rattle.orders.specs.Interleaved.{bits_of};
 ghost use Rattle.orders.specs.declared.space.Space.{Space};
 
-use crate::block::Block;
-use crate::point::Point;
-use crate::space::{QueryBox, Space};
+use crate::space::Space;
 
 // A rule says whose bit comes next, from the top of the address down.
 pub trait BitRule {
@@ -51,7 +48,7 @@ pub trait BitRule {
     ghost deals: { (s : Self) → Schedule (space_of s).n (space_of s).p (turn_of s) (used_of s) };
 }
 
-fn address_by<R: BitRule>(s: &R, t: u32, x: [u16; 4]) -> u64
+pub(crate) fn address_by<R: BitRule>(s: &R, t: u32, x: [u16; 4]) -> u64
     requires { t ≤ bits_of (R.space_of s.now) }
     ensures value { result ≡ address_of (R.turn_of s.now) t x }
     ensures below { result < 2 ^ t }
@@ -65,7 +62,7 @@ fn address_by<R: BitRule>(s: &R, t: u32, x: [u16; 4]) -> u64
     address_by(s, t - 1, half) * 2 + (x[j] % 2) as u64
 }
 
-fn point_by<R: BitRule>(s: &R, t: u32, a: u64) -> [u16; 4]
+pub(crate) fn point_by<R: BitRule>(s: &R, t: u32, a: u64) -> [u16; 4]
     requires { t ≤ bits_of (R.space_of s.now) }
     ensures { result ≡ point_at (R.turn_of s.now) t a }
 {
@@ -76,35 +73,4 @@ fn point_by<R: BitRule>(s: &R, t: u32, a: u64) -> [u16; 4]
     let j = s.turn(t - 1);
     q[j] = q[j] * 2 + (a % 2) as u16;
     q
-}
-
-pub fn address_in<R: BitRule>(s: &R, x: Point) -> Option<u64>
-    ensures { AddressIs (order_of (R.kind_of s.now) (R.space_of s.now) (R.turn_of s.now)) x.coords result }
-{
-    if !s.space().contains(x) {
-        return None;
-    }
-    Some(address_by(s, s.bits(), x.coords))
-}
-
-pub fn point_in<R: BitRule>(s: &R, a: u64) -> Option<Point>
-    ensures { PointIs (order_of (R.kind_of s.now) (R.space_of s.now) (R.turn_of s.now)) a result }
-{
-    let k = s.bits();
-    if (a >> k) != 0 {
-        return None;
-    }
-    Some(Point {
-        coords: point_by(s, k, a),
-    })
-}
-
-pub fn first_in<R: BitRule>(s: &R, b: &QueryBox, from: u64) -> Option<u64>
-    ensures { FirstIs (order_of (R.kind_of s.now) (R.space_of s.now) (R.turn_of s.now)) b.now.low.coords b.now.high.coords from result }
-{
-    let space = s.space();
-    if !space.contains(b.low()) || !space.contains(b.high()) {
-        return None;
-    }
-    Block::whole(s).first(b, from)
 }

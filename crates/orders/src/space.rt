@@ -1,5 +1,5 @@
 // Spaces of at most four coordinates, and boxes.
-ghost use Rattle.std.specs.Prelude.{◌≡◌, ℕ, ◌+◌, ◌-◌, ◌*◌, ◌/◌, ◌%◌, ◌^◌, ◌<◌, ◌≤◌, MatchResult, slice_index, Decides};
+ghost use Rattle.std.specs.Prelude.{◌≡◌, ℕ, ◌+◌, ◌-◌, ◌*◌, ◌/◌, ◌%◌, ◌^◌, ◌<◌, ◌≤◌, MatchResult, slice_index, IsTrue, ◌↔◌};
 ghost use Rattle.orders.specs.Spaces.{Range, InSpace, Ordered, Within};
 ghost use Rattle.orders.specs.declared.refusal.Refusal.TheVariants.{SpaceRange, BoxEnds};
 
@@ -61,7 +61,7 @@ impl Space {
     }
 
     pub fn contains(self, x: Point) -> bool
-        ensures { Decides result (InSpace self.n self.p x.coords) }
+        ensures { IsTrue result ↔ (InSpace self.n self.p x.coords) }
     {
         let n = self.n as usize;
         let p = self.p as u32;
@@ -97,7 +97,7 @@ impl QueryBox {
 
     // whether the point lies in the box
     pub fn contains(&self, x: Point) -> bool
-        ensures { Decides result (Within self.now.low.coords self.now.high.coords x.coords) }
+        ensures { IsTrue result ↔ (Within self.now.low.coords self.now.high.coords x.coords) }
     {
         let (a, c, b) = (self.low.coords, x.coords, self.high.coords);
         let above = a.iter().zip(c.iter()).all(|(x, y)| x <= y);

@@ -1,5 +1,5 @@
 // One page of a path: read with a check, or written from its entries.
-ghost use Rattle.std.specs.Prelude.{◌≤◌, length, Decides};
+ghost use Rattle.std.specs.Prelude.{◌≤◌, length, IsTrue, ◌↔◌};
 ghost use Rattle.layout.specs.Bytes.{content_of};
 ghost use Rattle.layout.specs.Content.{Own};
 ghost use Rattle.layout.specs.Listed.{entries};
@@ -18,7 +18,7 @@ use pages::store::PageStore;
 
 // Whether a page has its own number and level.
 fn is_own(bytes: &[u8; 128], at: PageRef) -> bool
-    ensures { Decides result (Own at.page at.level (content_of bytes.now)) }
+    ensures { IsTrue result ↔ (Own at.page at.level (content_of bytes.now)) }
 {
     let reader = PageReader::new(bytes);
     reader.number() == at.page && reader.level() == at.level

@@ -1,5 +1,5 @@
 // Withdraw takes one event back: the path is read on the way down, and what remains of it is written on the way up.
-ghost use Rattle.std.specs.Prelude.{◌≡◌, ℕ, ◌+◌, ◌<◌, ◌≤◌, Decides, length, IfOk};
+ghost use Rattle.std.specs.Prelude.{◌≡◌, ℕ, ◌+◌, ◌<◌, ◌≤◌, length, IfOk, IsTrue, ◌↔◌};
 ghost use Rattle.layout.specs.Listed.{entries};
 ghost use Rattle.records.specs.Free.{numbers};
 ghost use Rattle.paths.specs.PathsReading.{IsPath};
@@ -71,7 +71,7 @@ fn withdraw_at<S: PageStore>(
 
 // Whether a path of this height can be copied: it has at most six pages, and as many are free.
 fn has_room(height: u8, free: &FreeList) -> bool
-    ensures { Decides result (RoomFor height (numbers free.now)) }
+    ensures { IsTrue result ↔ (RoomFor height (numbers free.now)) }
 {
     height <= 6 && height as u16 <= free.len()
 }

@@ -1,9 +1,9 @@
 // Numbers in decimal.
-ghost use Rattle.std.specs.Prelude.{Decides};
+ghost use Rattle.std.specs.Prelude.{IsTrue, ◌↔◌};
 ghost use Rattle.script.specs.Numbers.{Digits, NumberIs};
 
 fn is_digits(word: &str) -> bool
-    ensures { Decides result (Digits word.now) }
+    ensures { IsTrue result ↔ (Digits word.now) }
 {
     word.as_bytes().iter().all(|b| b.is_ascii_digit())
 }

@@ -1,4 +1,5 @@
 // Why a line of a script was not understood.
+use std::error::Error;
 use std::fmt;
 
 #[derive(Clone, Copy, PartialEq, Eq, Debug)]
@@ -26,3 +27,5 @@ impl fmt::Display for Reason {
         })
     }
 }
+
+impl Error for Reason {}

@@ -1,12 +1,13 @@
 // The second part of a script: the layers over the store, two at most.
 use crate::answer::Answer;
-use crate::hear::{Heard, hear, say};
+use crate::hear::{hear, say};
 use crate::parts::{Step, part};
 use crate::serve::serve;
 use crate::session::Session;
 use pages::skip::{Skip, skip_allowed};
 use pages::store::PageStore;
 use pages::turned::Turned;
+use script::line::Line;
 use script::reason::Reason;
 use script::setup::Setup;
 use std::ops::ControlFlow;
@@ -28,29 +29,30 @@ fn layer_line(
         return Ok(ControlFlow::Continue(()));
     };
     match heard {
-        Heard::Setup(Setup::Turned) => {
-            say(rt, &echo, Answer::Ok)?;
+        Ok(Line::Setup(Setup::Turned)) => {
+            say(rt, echo.as_str(), Answer::Ok)?;
             Ok(ControlFlow::Break(Some(Layer::Turned)))
         }
-        Heard::Setup(Setup::Skip(bad)) => {
+        Ok(Line::Setup(Setup::Skip(bad))) => {
             let answer = skip_allowed(bad.as_slice(), size).map_or_else(
                 Answer::Unmade,
                 |()| Answer::Ok,
             );
-            say(rt, &echo, answer)?;
+            say(rt, echo.as_str(), answer)?;
             Ok(ControlFlow::Break(Some(Layer::Skip(bad))))
         }
-        Heard::Setup(_) => {
-            say(rt, &echo, Answer::Unclear(Reason::Order))?;
+        Ok(Line::Setup(_)) => {
+            say(rt, echo.as_str(), Answer::Unclear(Reason::Order))?;
             Ok(ControlFlow::Continue(()))
         }
-        Heard::Call(_) | Heard::Refused(_) => Ok(ControlFlow::Break(None)),
+        Ok(Line::Call(_)) | Err(_) => Ok(ControlFlow::Break(None)),
     }
 }
 
 // What may still come over a store: the rest of the script runs on any store.
 pub trait Rest {
     fn run<S: PageStore + Drop>(
+        self,
         rt: &HostRuntime,
         session: &mut Session,
         store: S,
@@ -59,18 +61,23 @@ pub trait Rest {
 }
 
 // No further layer: calls.
+#[derive(Clone, Copy)]
 pub struct Calls;
 
-// One layer more, if the script names one, and then what `R` says.
+// One layer more, if the script names one, and then the rest.
+#[derive(Clone, Copy)]
 pub struct Layered<R> {
     rest: R,
 }
 
 // A script has two layers at most.
-pub type TwoLayers = Layered<Layered<Calls>>;
+pub const TWO_LAYERS: Layered<Layered<Calls>> = Layered {
+    rest: Layered { rest: Calls },
+};
 
 impl Rest for Calls {
     fn run<S: PageStore + Drop>(
+        self,
         rt: &HostRuntime,
         session: &mut Session,
         store: S,
@@ -80,8 +87,9 @@ impl Rest for Calls {
     }
 }
 
-impl<R: Rest> Rest for Layered<R> {
+impl<R: Rest + Drop> Rest for Layered<R> {
     fn run<S: PageStore + Drop>(
+        self,
         rt: &HostRuntime,
         session: &mut Session,
         store: S,
@@ -91,8 +99,10 @@ impl<R: Rest> Rest for Layered<R> {
         let (layer, left) = part(lines, |line| layer_line(rt, session, size, line))?;
         match layer {
             None => serve(rt, session, store, left),
-            Some(Layer::Turned) => R::run(rt, session, Turned::over(store), left),
-            Some(Layer::Skip(bad)) => R::run(rt, session, Skip::over(store, bad.as_slice()), left),
+            Some(Layer::Turned) => self.rest.run(rt, session, Turned::over(store), left),
+            Some(Layer::Skip(bad)) => self
+                .rest
+                .run(rt, session, Skip::over(store, bad.as_slice()), left),
         }
     }
 }

@@ -1,5 +1,5 @@
 // One whole script.
-use crate::layers::{Rest, TwoLayers};
+use crate::layers::{Rest, TWO_LAYERS};
 use crate::memory::Memory;
 use crate::session::{Ending, Session};
 use crate::stores::set_store;
@@ -15,11 +15,11 @@ fn run_over(
     match memory {
         Memory::Bytes(bytes) => {
             let store = MemoryStore::over(bytes.as_mut_slice());
-            TwoLayers::run(rt, session, store, lines)
+            TWO_LAYERS.run(rt, session, store, lines)
         }
         Memory::Slots(slots, pages) => {
             let store = SlotStore::over(slots.as_mut_slice(), *pages);
-            TwoLayers::run(rt, session, store, lines)
+            TWO_LAYERS.run(rt, session, store, lines)
         }
     }
 }

@@ -1,12 +1,13 @@
 // The last part of a script: calls.
 use crate::answer::Answer;
 use crate::calls::{access, call};
-use crate::hear::{Heard, hear, say};
+use crate::hear::{hear, say};
 use crate::session::Session;
 use index::index::Index;
 use orders::order::{PointOrder, RowOrder, ZOrder};
 use pages::store::PageStore;
 use script::call::{Access, Call};
+use script::line::Line;
 use script::question::ask;
 use script::reason::Reason;
 use script::setup::{OrderKind, Setup};
@@ -23,7 +24,7 @@ fn late(session: &Session, setup: Setup) -> Answer {
 fn access_line<S: PageStore + Drop, O: PointOrder + Drop>(
     rt: &HostRuntime,
     index: Index<S, O>,
-    echo: &String,
+    echo: &str,
     line: Access,
 ) -> anyhow::Result<Index<S, O>> {
     let (mut store, order) = index.into_parts();
@@ -43,20 +44,20 @@ fn call_line<S: PageStore + Drop, O: PointOrder + Drop>(
         return Ok(index);
     };
     let answer = match heard {
-        Heard::Setup(setup) => {
-            say(rt, &echo, late(session, setup))?;
+        Ok(Line::Setup(setup)) => {
+            say(rt, echo.as_str(), late(session, setup))?;
             return Ok(index);
         }
-        Heard::Call(Call::Access(access)) => {
+        Ok(Line::Call(Call::Access(access))) => {
             session.called = true;
-            return access_line(rt, index, &echo, access);
+            return access_line(rt, index, echo.as_str(), access);
         }
-        Heard::Call(Call::Ask(question)) => Answer::Asked(ask(order, question), order.n()),
-        Heard::Call(Call::Index(line)) => call(rt.alloc(), &mut index, line)?,
-        Heard::Refused(refusal) => Answer::Impossible(refusal),
+        Ok(Line::Call(Call::Ask(question))) => Answer::Asked(ask(order, question), order.n()),
+        Ok(Line::Call(Call::Index(line))) => call(rt.alloc(), &mut index, line)?,
+        Err(refusal) => Answer::Impossible(refusal),
     };
     session.called = true;
-    say(rt, &echo, answer)?;
+    say(rt, echo.as_str(), answer)?;
     Ok(index)
 }
 
@@ -82,9 +83,7 @@ pub fn serve<S: PageStore + Drop>(
     store: S,
     lines: &[&str],
 ) -> anyhow::Result<()> {
-    let Ok(order) = session.chosen() else {
-        return Ok(());
-    };
+    let order = session.chosen();
     match order.kind {
         OrderKind::Z => serve_in(rt, session, store, ZOrder::over(order.space), lines),
         OrderKind::Row => serve_in(rt, session, store, RowOrder::over(order.space), lines),

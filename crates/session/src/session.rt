@@ -1,5 +1,4 @@
 // What a script has set up beside its store.
-use orders::refusal::Refusal;
 use orders::space::Space;
 use script::setup::OrderKind;
 use std::alloc::Global;
@@ -36,18 +35,10 @@ impl Session {
     }
 
     // The order that stands, or the one that stands where no line chose any.
-    pub fn chosen(&self) -> Result<Chosen, Refusal> {
-        let Some(order) = self.order else {
-            return Ok(Chosen {
-                kind: OrderKind::Z,
-                space: Space::new(4, 15)?,
-            });
-        };
-        Ok(order)
-    }
-
-    // The number of coordinates of the space that stands.
-    pub fn coordinates(&self) -> u8 {
-        self.order.map_or(4, |order| order.space.n())
+    pub fn chosen(&self) -> Chosen {
+        self.order.unwrap_or_else(|| Chosen {
+            kind: OrderKind::Z,
+            space: Space::new(4, 15).unwrap(),
+        })
     }
 }

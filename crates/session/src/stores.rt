@@ -1,10 +1,11 @@
 // The first part of a script: the order and the store.
 use crate::answer::Answer;
-use crate::hear::{Heard, hear, say};
+use crate::hear::{hear, say};
 use crate::memory::{Memory, blank_slots, filled};
 use crate::parts::{Step, part};
 use crate::session::{Chosen, Session};
 use orders::space::Space;
+use script::line::Line;
 use script::reason::Reason;
 use script::setup::{OrderKind, Setup};
 use slots::store::making::slots_allowed;
@@ -25,7 +26,7 @@ fn choose(session: &mut Session, kind: OrderKind, n: u8, p: u8) -> Answer {
     }
 }
 
-fn read_image(rt: &HostRuntime, echo: &String, file: &str) -> anyhow::Result<Step<Memory>> {
+fn read_image(rt: &HostRuntime, echo: &str, file: &str) -> anyhow::Result<Step<Memory>> {
     match fs::read(rt, file) {
         Ok(bytes) => {
             say(rt, echo, Answer::Ok)?;
@@ -38,7 +39,7 @@ fn read_image(rt: &HostRuntime, echo: &String, file: &str) -> anyhow::Result<Ste
     }
 }
 
-fn make_slots(rt: &HostRuntime, echo: &String, pages: u16) -> anyhow::Result<Memory> {
+fn make_slots(rt: &HostRuntime, echo: &str, pages: u16) -> anyhow::Result<Memory> {
     let slots = blank_slots(rt.alloc(), pages)?;
     let answer = slots_allowed(slots.as_slice(), pages).map_or_else(
         Answer::Unmade,
@@ -53,17 +54,17 @@ fn store_line(rt: &HostRuntime, session: &mut Session, line: &str) -> anyhow::Re
         return Ok(ControlFlow::Continue(()));
     };
     match heard {
-        Heard::Setup(Setup::Order(kind, n, p)) => {
-            say(rt, &echo, choose(session, kind, n, p))?;
+        Ok(Line::Setup(Setup::Order(kind, n, p))) => {
+            say(rt, echo.as_str(), choose(session, kind, n, p))?;
             Ok(ControlFlow::Continue(()))
         }
-        Heard::Setup(Setup::Memory(pages, byte)) => {
-            say(rt, &echo, Answer::Ok)?;
+        Ok(Line::Setup(Setup::Memory(pages, byte))) => {
+            say(rt, echo.as_str(), Answer::Ok)?;
             Ok(ControlFlow::Break(Some(filled(rt.alloc(), pages, byte)?)))
         }
-        Heard::Setup(Setup::Image(file)) => read_image(rt, &echo, file),
-        Heard::Setup(Setup::Slot(pages)) => {
-            Ok(ControlFlow::Break(Some(make_slots(rt, &echo, pages)?)))
+        Ok(Line::Setup(Setup::Image(file))) => read_image(rt, echo.as_str(), file),
+        Ok(Line::Setup(Setup::Slot(pages))) => {
+            Ok(ControlFlow::Break(Some(make_slots(rt, echo.as_str(), pages)?)))
         }
         _ => Ok(ControlFlow::Break(None)),
     }

@@ -1,8 +1,8 @@
 // The scan of an opening: every page of a tree is read and asked for the rules of a sound tree.
-ghost use Rattle.std.specs.Prelude.{◌≡◌, suc, ◌≤◌, false, [], length, Decides, slice_index_or};
+ghost use Rattle.std.specs.Prelude.{◌≡◌, suc, ◌≤◌, false, [], length, slice_index_or, IsTrue, ◌↔◌};
 ghost use Rattle.tree.specs.Scan.{start as first_visits, scan as scanned};
 ghost use Rattle.faults.specs.Accesses.{contents};
-ghost use Rattle.walks.specs.Scans.{last_page, ScansPages, Scans};
+ghost use Rattle.walks.specs.Scans.{ScansPages, Scans};
 
 use crate::scanning::Seen;
 use crate::visiting::visit_page;
@@ -12,18 +12,12 @@ use layout::page_ref::PageRef;
 use layout::visit::{Rule, Visit};
 use pages::store::PageStore;
 use records::tray::Tray;
-
-// The last page that is used: `limit`, but no page past the store's last or past 1,024.
-fn last_used(limit: u16, size: u16) -> u16
-    ensures { result ≡ last_page limit size }
-{
-    limit.min(size.min(1024))
-}
+use tree::copy_limit::last_usable;
 
 // Rule A: whether a page's number is 2 to `last`, and it was not reached before.
 fn is_new(page: u16, last: u16, marks: &[bool; 1026]) -> bool
     requires { last ≤ 1024 }
-    ensures { Decides result ((2 ≤ page) × (page ≤ last) × (slice_index_or marks.now page false ≡ false)) }
+    ensures { IsTrue result ↔ ((2 ≤ page) × (page ≤ last) × (slice_index_or marks.now page false ≡ false)) }
 {
     (2..=last).contains(&page) && !marks[usize::from(page)]
 }
@@ -83,7 +77,7 @@ pub fn scan<S: PageStore>(
     if header.height > 6 {
         return Err(Fault::NoHeader);
     }
-    let last = last_used(limit, store.size());
+    let last = limit.min(last_usable(store.size()));
     let root = PageRef {
         page: header.root,
         level: header.height,

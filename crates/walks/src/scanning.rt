@@ -1,5 +1,5 @@
 // What a scan has passed.
-ghost use Rattle.std.specs.Prelude.{◌≡◌, ◌+◌, ◌^◌, ◌<◌, ◌≤◌, Decides};
+ghost use Rattle.std.specs.Prelude.{◌≡◌, ◌+◌, ◌^◌, ◌<◌, ◌≤◌, IsTrue, ◌↔◌};
 
 // How many pages, and the sum of their counts.
 #[derive(Clone, Copy, Default, PartialEq, Eq, Debug)]
@@ -21,7 +21,7 @@ impl Seen {
 
     // Rule F: whether the counts sum to the total, and a tree with pages leaves 6 of the pages 2 to `last` free.
     pub(crate) fn sums_hold(self, total: u32, last: u16) -> bool
-        ensures { Decides result ((self.sum ≡ total) × (1 ≤ self.pages → self.pages + 7 ≤ last)) }
+        ensures { IsTrue result ↔ ((self.sum ≡ total) × (1 ≤ self.pages → self.pages + 7 ≤ last)) }
     {
         self.sum == total && (self.pages == 0 || u32::from(self.pages) + 7 <= u32::from(last))
     }

@@ -1,5 +1,5 @@
 // What an entry list holds, and where a key belongs in it.
-ghost use Rattle.std.specs.Prelude.{◌≡◌, ◌≤◌, [], ◌∷◌, length, Decides};
+ghost use Rattle.std.specs.Prelude.{◌≡◌, ◌≤◌, [], ◌∷◌, length, IsTrue, ◌↔◌};
 ghost use Rattle.std.specs.List.{slice_get};
 ghost use Rattle.layout.specs.Bytes.{entries_of};
 ghost use Rattle.layout.specs.Edits.{entry};
@@ -52,7 +52,7 @@ impl EntryList {
 
     // Whether one page has room for the entries.
     pub fn fits_page(&self) -> bool
-        ensures { Decides result (length (entries self.now) ≤ 10) }
+        ensures { IsTrue result ↔ (length (entries self.now) ≤ 10) }
     {
         self.len() <= 10
     }

@@ -11,5 +11,5 @@ returns-in_err-fetch g c =
 
 pub returns-then-not-is_ours : goal.returns-then-not-is_ours
 returns-then-not-is_ours g c =
-    let h = c.in-Ok.ensures in
-    head_other _ _ _ [] c.fetch.new.into c.in-Ok.header c.in_ok-fetch.ensures h.0 h.1 (λ ours. true≢false (sym (c.is_ours.ensures.1 ours) ∙ c.if-not-is_ours.true))
+    let h = c.in_ok-header.ensures in
+    head_other _ _ _ [] c.fetch.new.into c.in_ok-header.header c.in_ok-fetch.ensures h.0 h.1 (λ ours. true≢false (sym (c.is_ours.ensures.1 ours) ∙ c.if-not-is_ours.true))

@@ -1,10 +1,10 @@
 use Rattle.orders.specs.Spaces.{InSpace}
 use Rattle.orders.proofs.Blocks.{first_whole}
-use Rattle.orders.proofs.rule.first_in.Goals as goal
+use Rattle.orders.proofs.order.InterleavedPointOrder.first.Goals as goal
 
 pub returns : goal.returns
 returns g c =
-    let s = c.args.s.now in
+    let s = c.args.self.now.rule in
     let o = g.R.BitRule in
     let sp = o.space_of s in
     let lo = c.args.b.now.low.coords in
