@@ -7,6 +7,7 @@ use Rattle.layout.specs.declared.change.Full.{Full}
 use Rattle.layout.specs.declared.change.ChildPages.{ChildPages}
 use Rattle.layout.specs.declared.change.ChildPages.TheVariants.{One, Two}
 use Rattle.layout.specs.declared.change.RightHalf.{RightHalf}
+use Rattle.layout.specs.declared.list.EntryList.{EntryList}
 use Rattle.layout.specs.Listed.{entries, blank}
 use Rattle.layout.specs.Edits.{Split, one, two, found, enter, remove, child_for, put_child}
 
@@ -45,7 +46,7 @@ pub record Ends (es : List Entry) (i key : ℕ) : Type 0 where
   pub other : suc i < length es → key ≡ (slice_index_or es i blank).key
 
 -- a page that fits, or its two halves: the left one is what is left in the list
-abbrev pub after_split : List Entry → Option RightHalf → Split (List Entry)
+abbrev pub after_split : List Entry → Option (RightHalf EntryList) → Split (List Entry)
 after_split es None = one es
 after_split es (Some r) = two es r.key (entries r.entries)
 

@@ -1,5 +1,4 @@
 // What the edits of a page's entries take and answer.
-use crate::list::EntryList;
 
 // Why an address is not entered: its count is the greatest there is, or there is no room for its entry.
 #[derive(Clone, Copy, PartialEq, Eq, Debug)]
@@ -21,7 +20,7 @@ pub enum ChildPages {
 
 // The right half of a page that was split, and the left half's key above it.
 #[derive(Drop, Debug)]
-pub struct RightHalf {
+pub struct RightHalf<T> {
     pub key: u64,
-    pub entries: EntryList,
+    pub entries: T,
 }

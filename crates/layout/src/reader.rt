@@ -75,16 +75,7 @@ fn read_entry(bytes: &[u8; 128], i: usize) -> Entry
     ensures { result ≡ entry_at bytes.now i }
 {
     let p = 8 + 12 * i;
-    let key = u64::from_le_bytes([
-        bytes[p],
-        bytes[p + 1],
-        bytes[p + 2],
-        bytes[p + 3],
-        bytes[p + 4],
-        bytes[p + 5],
-        bytes[p + 6],
-        bytes[p + 7],
-    ]);
+    let key = u64::from_le_bytes(bytes[p..p + 8].try_into().unwrap());
     let value = u16::from_le_bytes([bytes[p + 8], bytes[p + 9]]);
     Entry { key, value }
 }

@@ -4,6 +4,7 @@ use Rattle.layout.specs.declared.entry.Entry.{Entry}
 use Rattle.layout.specs.declared.change.ChildPages.{ChildPages}
 use Rattle.layout.specs.declared.change.ChildPages.TheVariants.{One, Two}
 use Rattle.layout.specs.declared.change.RightHalf.{RightHalf}
+use Rattle.layout.specs.declared.list.EntryList.{EntryList}
 use Rattle.layout.specs.Edits as page
 use Rattle.layout.specs.declared.change.Full.{Full}
 use Rattle.layout.specs.Changes.{Puts, split_of, after_split}
@@ -32,12 +33,12 @@ puts : (es mid : List Entry) (a : ℕ) (s : ChildPages) (b : Result (Unit {0}) F
 puts es mid a s (Ok u) n t = t ∙ put_same es a s
 puts es mid a s (Err f) n t = absurd (omega (arith, n, t.0))
 
-pub renewed : (es mid out : List Entry) (a : ℕ) (s : ChildPages) (b : Result (Unit {0}) Full) (r : Option RightHalf) → length es ≤ 10 → Puts a s es b mid → after_split out r ≡ page.fit_inner mid
+pub renewed : (es mid out : List Entry) (a : ℕ) (s : ChildPages) (b : Result (Unit {0}) Full) (r : Option (RightHalf EntryList)) → length es ≤ 10 → Puts a s es b mid → after_split out r ≡ page.fit_inner mid
     → as_tree (after_split out r) ≡ fit_inner (swap es a (pages_in s))
 renewed es mid out a s b r n t e = ap as_tree e ∙ tree_inner mid ∙ ap fit_inner (puts es mid a s b n t)
 
 tree_leaf : (es : List Entry) → as_tree (page.fit_leaf es) ≡ fit_leaf es
 tree_leaf es = tree_cond (leb (length es) 10) (page.one es) _
 
-pub leaf_split : (es out : List Entry) (r : Option RightHalf) → after_split out r ≡ page.fit_leaf es → as_tree (after_split out r) ≡ fit_leaf es
+pub leaf_split : (es out : List Entry) (r : Option (RightHalf EntryList)) → after_split out r ≡ page.fit_leaf es → as_tree (after_split out r) ≡ fit_leaf es
 leaf_split es out r e = ap as_tree e ∙ tree_leaf es

@@ -11,7 +11,8 @@ use Rattle.tree.specs.CopyMoves.Split.{one, two}
 use Rattle.tree.specs.CopyMemory.{place_at}
 use Rattle.faults.specs.declared.fault.Fault.{Fault}
 use Rattle.paths.specs.declared.halves.Halves.{Halves}
-use Rattle.paths.specs.declared.halves.RightPage.{RightPage}
+use Rattle.layout.specs.declared.change.RightHalf.{RightHalf}
+use Rattle.paths.specs.declared.page_entries.PageEntries.{PageEntries}
 use Rattle.paths.specs.declared.place.Placed.{Placed}
 use Rattle.paths.specs.PathsWrites.{Wrote, Unwrites}
 
@@ -21,9 +22,9 @@ pages_in (One v) = one v
 pages_in (Two v k w) = two v k w
 
 -- a page's entries, or those of its two halves
-abbrev pub halves_of : List Entry → Option RightPage → Split (List Entry)
+abbrev pub halves_of : List Entry → Option (RightHalf PageEntries) → Split (List Entry)
 halves_of es None = one es
-halves_of es (Some r) = two es r.key (entries r.page.list)
+halves_of es (Some r) = two es r.key (entries r.entries.list)
 
 abbrev pub parts_of : Halves → Split (List Entry)
 parts_of h = halves_of (entries h.left.list) h.right

@@ -8,14 +8,14 @@ ghost use Rattle.tree.specs.CopyPages.{fit_leaf, fit_inner, swap};
 ghost use Rattle.paths.specs.PathsReading.{counted};
 ghost use Rattle.paths.specs.LodgePlaces.{pages_in, parts_of, as_tree};
 
-use crate::halves::{Halves, RightPage};
+use crate::halves::Halves;
 use crate::page_entries::PageEntries;
 use layout::change::{ChildPages, RightHalf};
 use layout::list::EntryList;
 
 impl Halves {
     // What is left of a page's entries, and its right half, if it was split.
-    fn of_split(left: EntryList, right: Option<RightHalf>) -> Halves
+    fn of_split(left: EntryList, right: Option<RightHalf<EntryList>>) -> Halves
         requires { Few (after_split (entries left) right) }
         ensures { parts_of result ≡ as_tree (after_split (entries left) right) }
     {
@@ -26,9 +26,9 @@ impl Halves {
             },
             Some(half) => Halves {
                 left: PageEntries { list: left },
-                right: Some(RightPage {
+                right: Some(RightHalf {
                     key: half.key,
-                    page: PageEntries { list: half.entries },
+                    entries: PageEntries { list: half.entries },
                 }),
             },
         }

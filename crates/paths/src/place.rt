@@ -47,7 +47,7 @@ pub(crate) fn place<S: PageStore>(
                     page: second,
                     level,
                 },
-                &half.page,
+                &half.entries,
             )?;
             Ok(Placed {
                 pages: ChildPages::Two(first, half.key, second),

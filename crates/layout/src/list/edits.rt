@@ -126,7 +126,7 @@ impl EntryList {
 
     // A leaf of eleven keeps its first six; the others are its right half, and its sixth key is its key above.
     // None where the entries fit one page.
-    pub fn split_leaf(&mut self) -> Option<RightHalf>
+    pub fn split_leaf(&mut self) -> Option<RightHalf<EntryList>>
         ensures fits { after_split (entries self.new) result ≡ fit_leaf (entries self.old) }
         ensures few { Few (after_split (entries self.new) result) }
     {
@@ -143,7 +143,7 @@ impl EntryList {
     }
 
     // The same for an inner page, where the sixth key becomes 0, since it is the left half's last.
-    pub fn split_inner(&mut self) -> Option<RightHalf>
+    pub fn split_inner(&mut self) -> Option<RightHalf<EntryList>>
         ensures fits { after_split (entries self.new) result ≡ fit_inner (entries self.old) }
         ensures few { Few (after_split (entries self.new) result) }
     {
