@@ -47,7 +47,7 @@ pub enum Fault {
 }
 
 impl Fault {
-    // A read that the store refused.
+    // A read that the store refused. Beside `of_write`, and not one function with a parameter: the name says which at each call.
     pub fn of_read(access: Access) -> Fault
         ensures { result ≡ unread access }
     {

@@ -14,6 +14,7 @@ use pages::store::PageStore;
 use paths::lodge::lodge;
 
 impl<S: PageStore, O: PointOrder> Index<S, O> {
+    // Beside `withdraw`, which reads alike: one function over both copies would speak of each copy's contract through a closure.
     // Records one event at a point: reads the path, writes its copy to free pages, then the header; only then are the old pages free.
     pub fn lodge(&mut self, x: Point) -> Result<(), Fault>
         ensures step { Step (O.PointOrder.meaning self.old.order) (view S.PageStore.meaning self.old) (told result) (view S.PageStore.meaning self.new) (lodges x.coords) }

@@ -5,7 +5,7 @@ pub struct PageRef {
     pub level: u8,
 }
 
-// The root of the empty tree.
+// The root of the empty tree, no `None` but as a header has it: height 0 and page 0.
 pub const EMPTY: PageRef = PageRef { page: 0, level: 0 };
 
 // The header's page.

@@ -43,6 +43,7 @@ fn is_filled(page: &[u8; 128]) -> bool
     }
     let reader = PageReader::new(page);
     let mut again = [0; 128];
+    // by its one error: of `is_ok()` the proof does not come to what was written
     if let Err(TooMany) = write_page(&mut again, reader.level(), reader.number(), list.as_slice()) {
         return false;
     }

@@ -43,7 +43,7 @@ impl Plan {
         base + 1 + self.extra as u16
     }
 
-    // The tree's height if the leaf splits with `len` entries, and 0 if it does not.
+    // The tree's height if the leaf splits with `len` entries, and 0, below every limit, if it does not.
     fn rises(self, len: usize) -> u8
         ensures { result ≡ leaf_height len self }
     {

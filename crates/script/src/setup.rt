@@ -65,6 +65,7 @@ fn parse_store<'a>(words: &[&'a str]) -> Result<Setup<'a>, Reason> {
     }
 }
 
+// Beside `parse_numbers`, whose clauses are those of one type: over both types they would speak of `TryFrom`.
 fn parse_pages(heap: Global, words: &[&str]) -> Result<Vec<u16>, Trouble> {
     let mut pages = Vec::new(heap);
     for word in words {

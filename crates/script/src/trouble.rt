@@ -29,6 +29,7 @@ impl From<Reason> for Trouble {
     }
 }
 
+// Two, since an allocation fails in two ways: with what was to be kept, and without.
 impl From<AllocError> for Trouble {
     ghost from_gives = { λ _ r. r ≡ is_memory };
 

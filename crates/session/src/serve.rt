@@ -84,6 +84,7 @@ pub fn serve<S: PageStore + Drop>(
     lines: &[&str],
 ) -> anyhow::Result<()> {
     let order = session.chosen();
+    // each order is a type of its own
     match order.kind {
         OrderKind::Z => serve_in(rt, session, store, ZOrder::over(order.space), lines),
         OrderKind::Row => serve_in(rt, session, store, RowOrder::over(order.space), lines),

@@ -6,7 +6,7 @@ use crate::slot::number_of;
 // A slot store has at most so many pages.
 const MOST_PAGES: u16 = 1024;
 
-// What the making of a slot store reads off its slots: the slot of each page, or 0, and which slots are used, both counted from 1.
+// In tables of fixed size: what the making of a slot store reads off its slots: the slot of each page, or 0, and which slots are used, both counted from 1.
 #[derive(Drop)]
 pub(crate) struct Survey {
     pub(crate) home: [u16; 1025],

@@ -52,6 +52,7 @@ pub(crate) fn put_children(pending: &mut Tray<'_, Visit>, v: Visit, entries: &[E
     ensures put { to_come pending.new ≡ child_visits (v.at.level - 1) v.lo v.hi entries.now ++ to_come pending.old }
     ensures size { SameSize pending.old pending.new }
 {
+    // by place, since a child's region begins past its neighbour's key
     for i in (0..entries.len()).rev() {
         let _ = pending.put(child_visit(v, entries, i));
     }

@@ -30,7 +30,7 @@ fn judge(page: &[u8; 128], v: Visit, pending: &mut Tray<'_, Visit>) -> Result<u3
     Ok(0)
 }
 
-// Reads the page of a visit, for one charge, and judges it.
+// Reads the page of a visit, for one charge, and judges it. Its level is asked for here and held by no type: a lent record may be blank.
 pub(crate) fn visit_page<S: PageStore>(
     store: &mut S,
     v: Visit,

@@ -14,6 +14,7 @@ impl EntryList {
     pub fn count(&self, address: u64) -> Option<u16>
         ensures { result ≡ found address (entries self.now) }
     {
+        // not by `ok()?`: its step leaves the place unknown to the proof
         let Ok(i) = self.leaf_place(address) else {
             return None;
         };
@@ -48,7 +49,7 @@ impl EntryList {
         }
     }
 
-    // In a leaf: one less at an address; at 0 the entry goes. False, and nothing is changed, where it has no entry.
+    // In a leaf: one less at an address; at 0 the entry goes. Answers as a set's `remove`: false, and nothing is changed, where it has no entry.
     pub fn remove(&mut self, address: u64) -> bool
         ensures { Removes address (entries self.old) result (entries self.new) }
     {
