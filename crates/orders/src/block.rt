@@ -68,13 +68,10 @@ impl<'a, R: BitRule> Block<'a, R> {
     {
         let low = b.low().coords;
         let high = b.high().coords;
-        for (j, c) in self.corner.iter().enumerate() {
+        self.corner.iter().enumerate().all(|(j, c)| {
             let k = self.lacks(j);
-            if (low[j] >> k) > *c || (high[j] >> k) < *c {
-                return false;
-            }
-        }
-        true
+            (low[j] >> k) <= *c && *c <= (high[j] >> k)
+        })
     }
 
     // The least address of the block at or above `from` whose point is in the box. A block is halved, the lower half

@@ -75,6 +75,3 @@ page_written m m' p l before b es (Err e) r n t s = absurd (omega (arith, n, t.0
 page_written m m' p l before b es (Ok v) (Ok u) n t s =
     record { accepts = (s.0, s.1, ap content_of (sym t.1.0) ∙ t.1.1, tt); image = s.2 ∙ ap (written m p) t.1.0 }
 page_written m m' p l before b es (Ok v) (Err f) n t s = write_broken m m' p l b es f s
-
-pub free_there : (xs : List ℕ) (i p : ℕ) (o : Option ℕ) → i < length xs → o ≡ slice_get xs i → p ≡ unwrap_or o 0 → p ≡ get_or xs i 0
-free_there xs i p o h e s = s ∙ ap (λ (x : Option ℕ). unwrap_or x 0) (e ∙ slice_get-get_or xs i 0 h)

@@ -33,7 +33,7 @@ impl PageEntries {
         ensures level { result.level ≡ at.level - 1 }
     {
         PageRef {
-            page: self.list.child(address).unwrap_or(0),
+            page: self.list.child(address).unwrap(),
             level: at.level - 1,
         }
     }

@@ -30,7 +30,7 @@ impl Trade {
         ensures used { self.new.used ≡ self.old.used + 1 }
         ensures path { self.new.path ≡ self.old.path }
     {
-        let page = free.peek(self.used).unwrap_or(0);
+        let page = free.peek(self.used).unwrap();
         self.used += 1;
         page
     }

@@ -9,7 +9,7 @@ use crate::finding::put_finds;
 use crate::part::Part;
 use crate::request::Request;
 use faults::access::fetch;
-use layout::entry::Entry;
+use layout::entry::{Entry, end_of};
 use layout::list::EntryList;
 use layout::page_ref::PageRef;
 use orders::order::PointOrder;
@@ -63,19 +63,6 @@ pub(crate) fn walk_page<S: PageStore, O: PointOrder>(
     Part {
         reads: below.reads + 1,
         ..below
-    }
-}
-
-// The end of a child's region: its key, but the last child's ends where the page's does.
-fn end_of(children: &[Entry], i: usize, end: u64) -> u64
-    requires { i < length children.now }
-    ensures inside { i + 1 < length children.now → result ≡ (slice_index_or children.now i blank).key }
-    ensures last { i + 1 ≡ length children.now → result ≡ end }
-{
-    if i + 1 == children.len() {
-        end
-    } else {
-        children[i].key
     }
 }
 

@@ -31,6 +31,15 @@ pub enum Answer {
     Unclear(Reason),
 }
 
+impl Answer {
+    // The answer to what is done, or refused.
+    pub fn done<E, F: FnOnce(E) -> Answer>(carried: Result<(), E>, refused: F) -> Answer
+        requires { F.IsAlwaysCallable refused }
+    {
+        carried.map_or_else(refused, |()| Answer::Ok)
+    }
+}
+
 impl fmt::Display for Answer {
     fn fmt<W: fmt::Write>(&self, f: &mut fmt::Formatter<W>) -> fmt::Result {
         match self {

@@ -1,6 +1,5 @@
 // The calls of the index, and accesses to its store, with their answers.
 use crate::answer::Answer;
-use faults::fault::Fault;
 use index::index::Index;
 use layout::visit::Visit;
 use orders::order::PointOrder;
@@ -11,10 +10,6 @@ use std::alloc::{AllocError, Global};
 // An opening takes no more records than this, whatever it is lent.
 const MOST_WORK: u32 = 64;
 
-fn done(carried: Result<(), Fault>) -> Answer {
-    carried.map_or_else(Answer::Refused, |()| Answer::Ok)
-}
-
 // Opens with so many work records. From 64 on every number of records gives the same answer, so no more than 64 are lent.
 fn open<S: PageStore, O: PointOrder>(
     heap: Global,
@@ -22,7 +17,7 @@ fn open<S: PageStore, O: PointOrder>(
     records: u32,
 ) -> Result<Answer, AllocError> {
     let mut work = vec![in heap; Visit::default(); records.min(MOST_WORK) as usize]?;
-    Ok(done(index.open(work.as_mut_slice())))
+    Ok(Answer::done(index.open(work.as_mut_slice()), Answer::Refused))
 }
 
 // Carries out a call of the index.
@@ -36,14 +31,14 @@ pub fn call<S: PageStore, O: PointOrder>(
             index.grant(charge);
             Answer::Ok
         }
-        IndexCall::Format => done(index.format()),
+        IndexCall::Format => Answer::done(index.format(), Answer::Refused),
         IndexCall::Open(records) => open(heap, index, records)?,
         IndexCall::Shut => {
             index.shut();
             Answer::Ok
         }
-        IndexCall::Lodge(x) => done(index.lodge(x)),
-        IndexCall::Withdraw(x) => done(index.withdraw(x)),
+        IndexCall::Lodge(x) => Answer::done(index.lodge(x), Answer::Refused),
+        IndexCall::Withdraw(x) => Answer::done(index.withdraw(x), Answer::Refused),
         IndexCall::Tally(x) => index.tally(x).map_or_else(Answer::Refused, Answer::Count),
     })
 }
@@ -57,8 +52,8 @@ pub fn access<S: PageStore>(store: &mut S, access: Access) -> Answer {
                 .read(page, &mut bytes)
                 .map_or_else(Answer::Denied, |()| Answer::Page(bytes))
         }
-        Access::Write(page, byte) => store
-            .write(page, &[byte; 128])
-            .map_or_else(Answer::Denied, |()| Answer::Ok),
+        Access::Write(page, byte) => {
+            Answer::done(store.write(page, &[byte; 128]), Answer::Denied)
+        }
     }
 }

@@ -41,10 +41,7 @@ fn read_image(rt: &HostRuntime, echo: &str, file: &str) -> anyhow::Result<Step<M
 
 fn make_slots(rt: &HostRuntime, echo: &str, pages: u16) -> anyhow::Result<Memory> {
     let slots = blank_slots(rt.alloc(), pages)?;
-    let answer = slots_allowed(slots.as_slice(), pages).map_or_else(
-        Answer::Unmade,
-        |()| Answer::Ok,
-    );
+    let answer = Answer::done(slots_allowed(slots.as_slice(), pages), Answer::Unmade);
     say(rt, echo, answer)?;
     Ok(Memory::Slots(slots, pages))
 }

@@ -5,7 +5,7 @@ ghost use Rattle.tree.specs.Tree.{counts};
 ghost use Rattle.tree.specs.Scan.{visit, child_visits};
 ghost use Rattle.walks.specs.Pending.{to_come, HasRoom, SameSize};
 
-use layout::entry::Entry;
+use layout::entry::{Entry, end_of};
 use layout::page_ref::PageRef;
 use layout::visit::Visit;
 use records::tray::Tray;
@@ -29,18 +29,13 @@ fn child_visit(v: Visit, entries: &[Entry], i: usize) -> Visit
 {
     let child = entries[i];
     let lo = if i == 0 { v.lo } else { entries[i - 1].key + 1 };
-    let hi = if i + 1 == entries.len() {
-        v.hi
-    } else {
-        child.key
-    };
     Visit {
         at: PageRef {
             page: child.value,
             level: v.at.level - 1,
         },
         lo,
-        hi,
+        hi: end_of(entries, i, v.hi),
     }
 }
 

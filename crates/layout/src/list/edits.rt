@@ -5,7 +5,7 @@ ghost use Rattle.layout.specs.Edits.{found, drop_child_lem, fit_leaf, fit_inner}
 ghost use Rattle.layout.specs.Changes.{Enters, Removes, Picks, Puts, Ends, after_split, Few};
 
 use crate::change::{ChildPages, EnterFault, Full, RightHalf};
-use crate::entry::Entry;
+use crate::entry::{Entry, end_of};
 use crate::list::EntryList;
 use arrayvec::ArrayVec;
 
@@ -105,11 +105,7 @@ impl EntryList {
         requires { i < length (entries self.now) }
         ensures { Ends (entries self.now) i result }
     {
-        let n = self.len();
-        if i + 1 == n {
-            return 0;
-        }
-        self.items[i].key
+        end_of(self.as_slice(), i, 0)
     }
 
     // In an inner page: the child for an address drops out; a key that becomes last becomes 0.

@@ -5,6 +5,3 @@ use Rattle.paths.proofs.trade.Trade.next_page.Goals as goal
 
 pub overflow_add-self : goal.overflow_add-self
 overflow_add-self c = omega (arith, c.requires, numbers_few c.args.free.now)
-
-pub returns-clause-page : goal.returns-clause-page
-returns-clause-page c = free_there _ _ _ _ c.requires c.peek.ensures c.unwrap_or-page.ensures
