@@ -1,6 +1,5 @@
 use Rattle.std.proofs.Common.{arith}
 use Rattle.records.proofs.Frees.{numbers_few}
-use Rattle.paths.proofs.PathsAccesses.{free_there}
 use Rattle.paths.proofs.trade.Trade.next_page.Goals as goal
 
 pub overflow_add-self : goal.overflow_add-self
