@@ -1,5 +1,5 @@
 #!/usr/bin/env python3
-"""Lists the places of the design pass (docs/DESIGN-PASS.md) in crates/*/src, a line each: POINT kind file:line text.
+"""Lists the places of the design pass in crates/*/src, a line each: POINT (of the table in docs/DESIGN-PASS.md) kind file:line text.
 
     python3 tools/places.py [COMMIT]     the files of a commit, else those of the working tree
     python3 tools/places.py -c [COMMIT]  only the counts, a line for each point and kind
