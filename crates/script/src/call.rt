@@ -1,10 +1,19 @@
 // Lines that call: a question to the order, an access to the store, or a call of the index.
-use crate::parse::{parse_as, parse_point, parse_question};
+use crate::parse::{parse_as, parse_box, parse_point, parse_question};
 use crate::question::Question;
 use crate::reason::Reason;
 use crate::trouble::Trouble;
 use orders::point::Point;
+use orders::space::QueryBox;
 use std::alloc::Global;
+
+// What a search is asked: a box, the address that it begins at, and for how many finds there is room.
+#[derive(Clone, Copy, PartialEq, Eq, Debug)]
+pub struct Search {
+    pub query: QueryBox,
+    pub start: u64,
+    pub room: u32,
+}
 
 // The calls of the index.
 #[derive(Clone, Copy, PartialEq, Eq, Debug)]
@@ -21,6 +30,8 @@ pub enum IndexCall {
     Withdraw(Point),
     // how many events?
     Tally(Point),
+    // which events has a box?
+    Search(Search),
 }
 
 // An access to the store itself, past the index.
@@ -41,6 +52,9 @@ pub enum Call {
 
 // The work records that an opening is lent where the line does not say.
 const WORK: u32 = 64;
+
+// For so many finds a search has room where the line does not say.
+const ROOM: u32 = 1000;
 
 fn parse_access(verb: &str, words: &[&str]) -> Result<Option<Access>, Reason> {
     match (verb, words) {
@@ -73,6 +87,24 @@ fn parse_plain(verb: &str, words: &[&str]) -> Result<Option<IndexCall>, Reason> 
     }
 }
 
+// The words before a trailing name and its value, and that value; all words and none where the name is not there.
+fn trailing<'w, 'a>(words: &'w [&'a str], name: &str) -> (&'w [&'a str], Option<&'a str>) {
+    match words {
+        [before @ .., key, value] if *key == name => (before, Some(value)),
+        _ => (words, None),
+    }
+}
+
+// `BOX`, then `from ADDRESS` or not, then `room FINDS` or not.
+fn parse_search(heap: Global, words: &[&str], n: u8) -> Result<Search, Trouble> {
+    let (words, room) = trailing(words, "room");
+    let (ends, start) = trailing(words, "from");
+    let room = room.map_or(Ok(ROOM), parse_as)?;
+    let start = start.map_or(Ok(0), parse_as)?;
+    let query = parse_box(heap, ends, n)?;
+    Ok(Search { query, start, room })
+}
+
 fn parse_index_call(
     heap: Global,
     verb: &str,
@@ -83,6 +115,7 @@ fn parse_index_call(
         "lodge" => IndexCall::Lodge,
         "withdraw" => IndexCall::Withdraw,
         "tally" => IndexCall::Tally,
+        "search" => return Ok(Some(IndexCall::Search(parse_search(heap, words, n)?))),
         _ => return Ok(parse_plain(verb, words)?),
     };
     Ok(Some(call(parse_point(heap, words, n)?)))

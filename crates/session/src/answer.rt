@@ -7,14 +7,17 @@ use pages::fault::StoreFault;
 use pages::making::MakingFault;
 use script::question;
 use script::reason::Reason;
+use searches::find::{Ending, Find, Found};
 use std::fmt;
 
-#[derive(Clone, Copy)]
+#[derive(Drop)]
 pub enum Answer {
     // done
     Ok,
     // so many events
     Count(u16),
+    // how a search ended, and its finds, in a space of so many coordinates
+    Found(Found, Vec<Find>, u8),
     // what the order answers, in a space of so many coordinates
     Asked(Option<question::Answer>, u8),
     // the bytes of a page
@@ -45,6 +48,7 @@ impl fmt::Display for Answer {
         match self {
             Answer::Ok => f.write_str("ok"),
             Answer::Count(count) => write!(f, "count {count}"),
+            Answer::Found(found, finds, n) => write_found(f, *found, finds.as_slice(), *n),
             Answer::Asked(None, _) => f.write_str("none"),
             Answer::Asked(Some(question::Answer::Address(a)), _) => write!(f, "{a}"),
             Answer::Asked(Some(question::Answer::At(x)), n) => write_point(f, *x, *n),
@@ -68,6 +72,37 @@ fn write_point<W: fmt::Write>(f: &mut fmt::Formatter<W>, x: Point, n: u8) -> fmt
         write!(f, "{c}")?;
     }
     f.write_str(")")
+}
+
+// How a search ended, and then a line for each find.
+fn write_found<W: fmt::Write>(
+    f: &mut fmt::Formatter<W>,
+    found: Found,
+    finds: &[Find],
+    n: u8,
+) -> fmt::Result {
+    let Found {
+        count,
+        reads,
+        ending,
+    } = found;
+    match ending {
+        Ending::Done => f.write_str("done")?,
+        Ending::More(address) => write!(f, "more at {address}")?,
+        Ending::Cut(page, address) => write!(f, "cut at {address} page {page}")?,
+    }
+    write!(f, ", {reads} reads, {count} finds")?;
+    for find in finds {
+        let Find {
+            address,
+            point,
+            count,
+        } = find;
+        write!(f, "\n    {address} ")?;
+        write_point(f, *point, n)?;
+        write!(f, " x{count}")?;
+    }
+    Ok(())
 }
 
 // A refusal of the index: its number, the values that go with it, and why.

@@ -3,8 +3,10 @@ use crate::answer::Answer;
 use index::index::Index;
 use layout::visit::Visit;
 use orders::order::PointOrder;
+use orders::point::Point;
 use pages::store::PageStore;
-use script::call::{Access, IndexCall};
+use script::call::{Access, IndexCall, Search};
+use searches::find::Find;
 use std::alloc::{AllocError, Global};
 
 // An opening takes no more records than this, whatever it is lent.
@@ -20,11 +22,38 @@ fn open<S: PageStore, O: PointOrder>(
     Ok(Answer::done(index.open(work.as_mut_slice()), Answer::Refused))
 }
 
-// Carries out a call of the index.
+// A tree has no more events than this: ten in each of its 1,024 pages.
+const MOST_FINDS: u32 = 10240;
+
+const NO_FIND: Find = Find {
+    address: 0,
+    point: Point { coords: [0; 4] },
+    count: 0,
+};
+
+// Searches with room for so many finds. From 10,240 on every room gives the same answer, so no more is lent.
+fn search<S: PageStore, O: PointOrder>(
+    heap: Global,
+    index: &mut Index<S, O>,
+    asked: Search,
+    n: u8,
+) -> Result<Answer, AllocError> {
+    let mut finds = vec![in heap; NO_FIND; asked.room.min(MOST_FINDS) as usize]?;
+    match index.search(&asked.query, asked.start, finds.as_mut_slice()) {
+        Ok(found) => {
+            finds.truncate(found.count);
+            Ok(Answer::Found(found, finds, n))
+        }
+        Err(fault) => Ok(Answer::Refused(fault)),
+    }
+}
+
+// Carries out a call of the index, in a space of n coordinates.
 pub fn call<S: PageStore, O: PointOrder>(
     heap: Global,
     index: &mut Index<S, O>,
     call: IndexCall,
+    n: u8,
 ) -> Result<Answer, AllocError> {
     Ok(match call {
         IndexCall::Grant(charge) => {
@@ -40,6 +69,7 @@ pub fn call<S: PageStore, O: PointOrder>(
         IndexCall::Lodge(x) => Answer::done(index.lodge(x), Answer::Refused),
         IndexCall::Withdraw(x) => Answer::done(index.withdraw(x), Answer::Refused),
         IndexCall::Tally(x) => index.tally(x).map_or_else(Answer::Refused, Answer::Count),
+        IndexCall::Search(asked) => search(heap, index, asked, n)?,
     })
 }
 

@@ -53,7 +53,7 @@ fn call_line<S: PageStore + Drop, O: PointOrder + Drop>(
             return access_line(rt, index, echo.as_str(), access);
         }
         Ok(Line::Call(Call::Ask(question))) => Answer::Asked(ask(order, question), order.n()),
-        Ok(Line::Call(Call::Index(line))) => call(rt.alloc(), &mut index, line)?,
+        Ok(Line::Call(Call::Index(line))) => call(rt.alloc(), &mut index, line, order.n())?,
         Err(refusal) => Answer::Impossible(refusal),
     };
     session.called = true;
