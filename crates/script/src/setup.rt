@@ -20,6 +20,8 @@ pub enum Setup<'a> {
     Image(&'a str),
     // so many pages, over one slot more
     Slot(u16),
+    // so many pages, over the slots of a file
+    SlotImage(u16, &'a str),
     Turned,
     // the pages to leave out
     Skip(Vec<u16>),
@@ -60,6 +62,8 @@ fn parse_store<'a>(words: &[&'a str]) -> Result<Setup<'a>, Reason> {
         ["memory", rest @ ..] => parse_memory(rest),
         ["image", file] => Ok(Setup::Image(file)),
         ["slot", pages] => Ok(Setup::Slot(parse_as(pages)?)),
+        ["slot", pages, "image", file] => Ok(Setup::SlotImage(parse_as(pages)?, file)),
+        ["slot", _, _, _] => Err(Reason::Command),
         [] | ["image" | "slot", ..] => Err(Reason::Words),
         _ => Err(Reason::Command),
     }

@@ -1,6 +1,6 @@
 // Hearing a line: what is answered alike at every point of a script is answered here.
-use crate::answer::Answer;
 use crate::session::{Ending, Session};
+use answers::answer::Answer;
 use orders::refusal::Refusal;
 use script::line::{Line, parse_line};
 use script::setup::Setup;

@@ -1,9 +1,9 @@
 // The second part of a script: the layers over the store, two at most.
-use crate::answer::Answer;
 use crate::hear::{hear, say};
 use crate::parts::{Step, part};
 use crate::serve::serve;
 use crate::session::Session;
+use answers::answer::Answer;
 use pages::skip::{Skip, skip_allowed};
 use pages::store::PageStore;
 use pages::turned::Turned;

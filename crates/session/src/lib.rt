@@ -1,8 +1,6 @@
 // One run of a script over one pile of stores: set-up, calls, and what is done with the memory at the end.
 #![tactic(auto)]
 
-mod answer;
-mod calls;
 mod hear;
 mod layers;
 mod memory;

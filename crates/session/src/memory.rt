@@ -1,33 +1,44 @@
 // The memory that is lent to a store.
 ghost use Rattle.std.specs.Prelude.{◌<◌};
 
-use crate::answer::Hex;
+use answers::answer::Hex;
 use std::alloc::{AllocError, Global};
 use std::fs;
 
 const PAGE: usize = 128;
 
-const SLOT: usize = 130;
+pub const SLOT: usize = 130;
 
 // A store has at most so many pages.
 const MOST_PAGES: usize = 65535;
 
+// What the memory is lent to.
+#[derive(Clone, Copy)]
+pub enum Kind {
+    // a memory store
+    Pages,
+    // a slot store of so many pages
+    Slots(u16),
+}
+
 #[derive(Drop)]
-pub enum Memory {
-    // of a memory store
-    Bytes(Vec<u8>),
-    // of a slot store of so many pages
-    Slots(Vec<[u8; SLOT]>, u16),
+pub struct Memory {
+    pub bytes: Vec<u8>,
+    pub kind: Kind,
 }
 
 // Pages of which every byte is the same.
 pub fn filled(heap: Global, pages: u16, byte: u8) -> Result<Memory, AllocError> {
-    Ok(Memory::Bytes(vec![in heap; byte; usize::from(pages) * PAGE]?))
+    let bytes = vec![in heap; byte; usize::from(pages) * PAGE]?;
+    Ok(Memory {
+        bytes,
+        kind: Kind::Pages,
+    })
 }
 
-// Slots of zeros for so many pages: one slot more.
-pub fn blank_slots(heap: Global, pages: u16) -> Result<Vec<[u8; SLOT]>, AllocError> {
-    vec![in heap; [0u8; SLOT]; usize::from(pages) + 1]
+// The bytes of slots of zeros for so many pages: one slot more.
+pub fn blank_slots(heap: Global, pages: u16) -> Result<Vec<u8>, AllocError> {
+    vec![in heap; 0u8; (usize::from(pages) + 1) * SLOT]
 }
 
 // Prints every part of so many bytes that is not all zeros, under its number.
@@ -51,24 +62,16 @@ fn print_parts(
 }
 
 impl Memory {
-    // All bytes, those of slots one slot after the other.
-    fn bytes(&self) -> &[u8] {
-        match self {
-            Memory::Bytes(bytes) => bytes.as_slice(),
-            Memory::Slots(slots, _) => slots.as_slice().as_flattened(),
-        }
-    }
-
     // Prints each page or slot that is not all zeros.
     pub fn dump(&self, rt: &HostRuntime) -> anyhow::Result<()> {
-        match self {
-            Memory::Bytes(_) => print_parts(rt, "page", self.bytes(), PAGE, MOST_PAGES),
-            Memory::Slots(_, _) => print_parts(rt, "slot", self.bytes(), SLOT, MOST_PAGES + 1),
+        match self.kind {
+            Kind::Pages => print_parts(rt, "page", self.bytes.as_slice(), PAGE, MOST_PAGES),
+            Kind::Slots(_) => print_parts(rt, "slot", self.bytes.as_slice(), SLOT, usize::MAX),
         }
     }
 
     pub fn save(&self, rt: &HostRuntime, file: &str) -> anyhow::Result<()> {
-        fs::write(rt, file, self.bytes())?;
+        fs::write(rt, file, self.bytes.as_slice())?;
         Ok(())
     }
 }

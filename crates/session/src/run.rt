@@ -1,6 +1,6 @@
 // One whole script.
 use crate::layers::{Rest, TWO_LAYERS};
-use crate::memory::Memory;
+use crate::memory::{Kind, Memory, SLOT};
 use crate::session::{Ending, Session};
 use crate::stores::set_store;
 use pages::memory::MemoryStore;
@@ -12,14 +12,12 @@ fn run_over(
     memory: &mut Memory,
     lines: &[&str],
 ) -> anyhow::Result<()> {
-    match memory {
-        Memory::Bytes(bytes) => {
-            let store = MemoryStore::over(bytes.as_mut_slice());
-            TWO_LAYERS.run(rt, session, store, lines)
-        }
-        Memory::Slots(slots, pages) => {
-            let store = SlotStore::over(slots.as_mut_slice(), *pages);
-            TWO_LAYERS.run(rt, session, store, lines)
+    let bytes = memory.bytes.as_mut_slice();
+    match memory.kind {
+        Kind::Pages => TWO_LAYERS.run(rt, session, MemoryStore::over(bytes), lines),
+        Kind::Slots(pages) => {
+            let (slots, _rest) = bytes.as_chunks_mut::<SLOT>();
+            TWO_LAYERS.run(rt, session, SlotStore::over(slots, pages), lines)
         }
     }
 }

@@ -1,8 +1,8 @@
 // The last part of a script: calls.
-use crate::answer::Answer;
-use crate::calls::{access, call};
 use crate::hear::{hear, say};
 use crate::session::Session;
+use answers::answer::Answer;
+use answers::calls::{access, call};
 use index::index::Index;
 use orders::order::{PointOrder, RowOrder, ZOrder};
 use pages::store::PageStore;

@@ -1,9 +1,9 @@
 // The first part of a script: the order and the store.
-use crate::answer::Answer;
 use crate::hear::{hear, say};
-use crate::memory::{Memory, blank_slots, filled};
+use crate::memory::{Kind, Memory, SLOT, blank_slots, filled};
 use crate::parts::{Step, part};
 use crate::session::{Chosen, Session};
+use answers::answer::Answer;
 use orders::space::Space;
 use script::line::Line;
 use script::reason::Reason;
@@ -26,24 +26,33 @@ fn choose(session: &mut Session, kind: OrderKind, n: u8, p: u8) -> Answer {
     }
 }
 
-fn read_image(rt: &HostRuntime, echo: &str, file: &str) -> anyhow::Result<Step<Memory>> {
+// The bytes of a file; none where it cannot be read, which is answered then.
+fn read_file(rt: &HostRuntime, echo: &str, file: &str) -> anyhow::Result<Option<Vec<u8>>> {
     match fs::read(rt, file) {
-        Ok(bytes) => {
-            say(rt, echo, Answer::Ok)?;
-            Ok(ControlFlow::Break(Some(Memory::Bytes(bytes))))
-        }
+        Ok(bytes) => Ok(Some(bytes)),
         Err(_) => {
             println!(rt; "{echo} -> cannot read {file}")?;
-            Ok(ControlFlow::Continue(()))
+            Ok(None)
         }
     }
 }
 
-fn make_slots(rt: &HostRuntime, echo: &str, pages: u16) -> anyhow::Result<Memory> {
-    let slots = blank_slots(rt.alloc(), pages)?;
-    let answer = Answer::done(slots_allowed(slots.as_slice(), pages), Answer::Unmade);
+fn make_pages(rt: &HostRuntime, echo: &str, bytes: Vec<u8>) -> anyhow::Result<Memory> {
+    say(rt, echo, Answer::Ok)?;
+    Ok(Memory {
+        bytes,
+        kind: Kind::Pages,
+    })
+}
+
+fn make_slots(rt: &HostRuntime, echo: &str, bytes: Vec<u8>, pages: u16) -> anyhow::Result<Memory> {
+    let (slots, _rest) = bytes.as_slice().as_chunks::<SLOT>();
+    let answer = Answer::done(slots_allowed(slots, pages), Answer::Unmade);
     say(rt, echo, answer)?;
-    Ok(Memory::Slots(slots, pages))
+    Ok(Memory {
+        bytes,
+        kind: Kind::Slots(pages),
+    })
 }
 
 fn store_line(rt: &HostRuntime, session: &mut Session, line: &str) -> anyhow::Result<Step<Memory>> {
@@ -59,9 +68,24 @@ fn store_line(rt: &HostRuntime, session: &mut Session, line: &str) -> anyhow::Re
             say(rt, echo.as_str(), Answer::Ok)?;
             Ok(ControlFlow::Break(Some(filled(rt.alloc(), pages, byte)?)))
         }
-        Ok(Line::Setup(Setup::Image(file))) => read_image(rt, echo.as_str(), file),
+        Ok(Line::Setup(Setup::Image(file))) => match read_file(rt, echo.as_str(), file)? {
+            Some(bytes) => Ok(ControlFlow::Break(Some(make_pages(rt, echo.as_str(), bytes)?))),
+            None => Ok(ControlFlow::Continue(())),
+        },
         Ok(Line::Setup(Setup::Slot(pages))) => {
-            Ok(ControlFlow::Break(Some(make_slots(rt, echo.as_str(), pages)?)))
+            let bytes = blank_slots(rt.alloc(), pages)?;
+            Ok(ControlFlow::Break(Some(make_slots(rt, echo.as_str(), bytes, pages)?)))
+        }
+        Ok(Line::Setup(Setup::SlotImage(pages, file))) => {
+            match read_file(rt, echo.as_str(), file)? {
+                Some(bytes) => Ok(ControlFlow::Break(Some(make_slots(
+                    rt,
+                    echo.as_str(),
+                    bytes,
+                    pages,
+                )?))),
+                None => Ok(ControlFlow::Continue(())),
+            }
         }
         _ => Ok(ControlFlow::Break(None)),
     }
