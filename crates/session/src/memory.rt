@@ -1,5 +1,6 @@
 // The memory that is lent to a store.
-ghost use Rattle.std.specs.Prelude.{◌<◌};
+ghost use Rattle.std.specs.Prelude.{◌≡◌, ◌+◌, ◌*◌, ◌<◌, ⊤, MatchResult, replicate};
+ghost use Rattle.session.specs.SetUp.{Filled};
 
 use answers::answer::Hex;
 use std::alloc::{AllocError, Global};
@@ -28,7 +29,9 @@ pub struct Memory {
 }
 
 // Pages of which every byte is the same.
-pub fn filled(heap: Global, pages: u16, byte: u8) -> Result<Memory, AllocError> {
+pub fn filled(heap: Global, pages: u16, byte: u8) -> Result<Memory, AllocError>
+    ensures { MatchResult result (Filled pages byte) (λ _. ⊤) }
+{
     let bytes = vec![in heap; byte; usize::from(pages) * PAGE]?;
     Ok(Memory {
         bytes,
@@ -37,7 +40,9 @@ pub fn filled(heap: Global, pages: u16, byte: u8) -> Result<Memory, AllocError> 
 }
 
 // The bytes of slots of zeros for so many pages: one slot more.
-pub fn blank_slots(heap: Global, pages: u16) -> Result<Vec<u8>, AllocError> {
+pub fn blank_slots(heap: Global, pages: u16) -> Result<Vec<u8>, AllocError>
+    ensures { MatchResult result (λ v. v.items ≡ replicate ((pages + 1) * 130) 0) (λ _. ⊤) }
+{
     vec![in heap; 0u8; (usize::from(pages) + 1) * SLOT]
 }
 

@@ -1,4 +1,6 @@
 // A script has parts, and each begins where the one before has made what it is there for.
+ghost use Rattle.std.specs.Prelude.{◌≡◌, ⊤, ℕ, drop, MatchResult};
+
 use std::ops::ControlFlow;
 
 // What a line does to a part: the part goes on; or it ends, with what the line made, or with nothing where the line belongs to the next part.
@@ -10,6 +12,7 @@ pub fn part<'s, 't, T: Drop, F: FnMut(&'t str) -> anyhow::Result<Step<T>>>(
     mut line_does: F,
 ) -> anyhow::Result<(Option<T>, &'s [&'t str])>
     requires { F.IsAlwaysCallable line_does }
+    ensures { MatchResult result (λ r. (k : ℕ) × (r.1.now ≡ drop k lines.now)) (λ _. ⊤) }
 {
     for (i, line) in lines.iter().enumerate() {
         match line_does(line)? {

@@ -1,4 +1,8 @@
 // The last part of a script: calls.
+ghost use Rattle.std.specs.Prelude.{◌≡◌};
+ghost use Rattle.answers.specs.declared.answer.Answer.TheVariants.{Unclear as is_unclear};
+ghost use Rattle.session.specs.SetUp.{late_line};
+
 use crate::hear::{hear, say};
 use crate::session::Session;
 use answers::answer::Answer;
@@ -13,7 +17,9 @@ use script::reason::Reason;
 use script::setup::{OrderKind, Setup};
 
 // The answer to a set-up line that comes too late.
-fn late(session: &Session, setup: Setup) -> Answer {
+fn late(session: &Session, setup: Setup) -> Answer
+    ensures { result ≡ is_unclear (late_line session.now.called setup.entry) }
+{
     Answer::Unclear(match setup {
         Setup::Turned | Setup::Skip(_) if !session.called => Reason::Layers,
         _ => Reason::Order,

@@ -1,4 +1,8 @@
 // What a script has set up beside its store.
+ghost use Rattle.std.specs.Prelude.{◌≡◌};
+ghost use Rattle.script.specs.declared.setup.OrderKind.TheVariants.{Z};
+ghost use Rattle.session.specs.SetUp.{Stands};
+
 use orders::space::Space;
 use script::setup::OrderKind;
 use std::alloc::Global;
@@ -7,6 +11,16 @@ use std::alloc::Global;
 pub struct Chosen {
     pub kind: OrderKind,
     pub space: Space,
+}
+
+// The order where no line chose one.
+fn default_order() -> Chosen
+    ensures { (result.kind ≡ Z) × (result.space.n ≡ 4) × (result.space.p ≡ 15) }
+{
+    Chosen {
+        kind: OrderKind::Z,
+        space: Space::new(4, 15).unwrap(),
+    }
 }
 
 // What is done with the memory after the last line.
@@ -35,10 +49,9 @@ impl Session {
     }
 
     // The order that stands, or the one that stands where no line chose any.
-    pub fn chosen(&self) -> Chosen {
-        self.order.unwrap_or_else(|| Chosen {
-            kind: OrderKind::Z,
-            space: Space::new(4, 15).unwrap(),
-        })
+    pub fn chosen(&self) -> Chosen
+        ensures { Stands self.now result }
+    {
+        self.order.unwrap_or_else(default_order)
     }
 }

@@ -1,4 +1,6 @@
 // The first part of a script: the order and the store.
+ghost use Rattle.session.specs.SetUp.{Chooses};
+
 use crate::hear::{hear, say};
 use crate::memory::{Kind, Memory, SLOT, blank_slots, filled};
 use crate::parts::{Step, part};
@@ -13,7 +15,9 @@ use std::fs;
 use std::ops::ControlFlow;
 
 // The answer to a choice of the order, which is made once.
-fn choose(session: &mut Session, kind: OrderKind, n: u8, p: u8) -> Answer {
+fn choose(session: &mut Session, kind: OrderKind, n: u8, p: u8) -> Answer
+    ensures { Chooses session.old kind n p result session.new }
+{
     if session.order.is_some() {
         return Answer::Unclear(Reason::Order);
     }
