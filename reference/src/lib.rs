@@ -2,6 +2,7 @@
 
 pub mod change;
 pub mod checked;
+pub mod generate;
 pub mod index;
 pub mod layer;
 pub mod order;
