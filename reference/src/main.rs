@@ -18,11 +18,12 @@ fn script() -> io::Result<Vec<u8>> {
 }
 
 fn run() -> io::Result<()> {
-    let script = script()?;
+    let script = String::from_utf8(script()?).map_err(io::Error::other)?;
     let mut session = Session::new(|file| std::fs::read(OsStr::from_bytes(file)).ok());
     let mut out = BufWriter::new(io::stdout().lock());
-    for line in script.split(|&b| b == b'\n') {
-        out.write_all(&session.line(line))?;
+    // A line ends with a line feed, or with a carriage return and a line feed.
+    for line in script.lines() {
+        out.write_all(&session.line(line.as_bytes()))?;
     }
     for last in session.end() {
         match last {

@@ -147,17 +147,11 @@ fn point(words: &[Word], n: usize) -> Result<Point, Reason> {
     Ok(point)
 }
 
-/// Whether so many words can be a box: twice n, or eight.
-fn box_words(words: &[Word], n: usize) -> Result<(), Reason> {
-    if words.len() == 2 * n || words.len() == 8 {
-        Ok(())
-    } else {
-        Err(Reason::Words)
-    }
-}
-
+/// Twice n coordinates, or eight.
 fn query_box(words: &[Word], n: usize) -> Result<MaybeBox, Reason> {
-    box_words(words, n)?;
+    if words.len() != 2 * n && words.len() != 8 {
+        return Err(Reason::Words);
+    }
     let (low, high) = words.split_at(words.len() / 2);
     Ok(QueryBox::new(point(low, n)?, point(high, n)?))
 }
@@ -247,9 +241,7 @@ fn open_line(rest: &[Word]) -> Result<Line, Reason> {
 
 fn first_line(rest: &[Word], n: usize) -> Result<Line, Reason> {
     let (b, from) = trailing(rest, "from");
-    let from = from.ok_or(Reason::Words)?;
-    box_words(b, n)?;
-    let from = number(from)?;
+    let from = number(from.ok_or(Reason::Words)?)?;
     Ok(Line::First { b: query_box(b, n)?, from })
 }
 
@@ -257,7 +249,6 @@ fn first_line(rest: &[Word], n: usize) -> Result<Line, Reason> {
 fn search_line(rest: &[Word], n: usize) -> Result<Line, Reason> {
     let (rest, room) = trailing(rest, "room");
     let (b, start) = trailing(rest, "from");
-    box_words(b, n)?;
     let room = room.map_or(Ok(1000), fits)?;
     let start = start.map_or(Ok(0), number)?;
     Ok(Line::Search { b: query_box(b, n)?, start, room })

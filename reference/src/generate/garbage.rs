@@ -103,25 +103,36 @@ const WORDS: &[&str] = &[
     "1\t2", "\t", "\r", "1\r", "\u{a0}", "\u{e9}", "\u{665}", "\u{ff11}", "image", "skip", "z", "#", "->", "\u{1}",
 ];
 
+/// Lines of what the bench does not do yet stay away.
+fn of(w: &Writer, lines: &[&'static str]) -> Vec<&'static str> {
+    let known = |line: &&str| {
+        (w.with("search") || !line.starts_with("search")) && (w.with("slot-image") || line.split(' ').count() != 5)
+    };
+    lines.iter().copied().filter(|line| known(line)).collect()
+}
+
 /// A line that is passed over, is not understood, or asks for something at a wrong place.
 pub fn garbage(w: &mut Writer) -> Vec<u8> {
     match w.random.weighted(&[15, 25, 20, 40]) {
         0 => empty(&mut w.random),
-        1 => w.random.pick(LINES).as_bytes().to_vec(),
-        2 => late(&mut w.random),
+        1 => {
+            let lines = of(w, LINES);
+            w.random.pick(&lines).as_bytes().to_vec()
+        }
+        2 => late(w),
         _ => misspelt(w),
     }
 }
 
 fn empty(random: &mut Random) -> Vec<u8> {
     let lines: &[&[u8]] =
-        &[b"", b" ", b"     ", b"# a remark", b"#", b"#lodge 1 1", b" # no remark", b"\t", b"\r", b"## \xff\xfe", b" \t "];
+        &[b"", b" ", b"     ", b"# a remark", b"#", b"#lodge 1 1", b" # no remark", b"\t", b"\r", "## \u{e9}\u{2028}".as_bytes(), b" \t "];
     random.pick(lines).to_vec()
 }
 
 /// A set-up line, which stands at a wrong place after the set-up.
-fn late(random: &mut Random) -> Vec<u8> {
-    let lines = [
+fn late(w: &mut Writer) -> Vec<u8> {
+    let lines = of(w, &[
         "order z 2 3",
         "order row 9 9",
         "order z 4 15",
@@ -135,8 +146,8 @@ fn late(random: &mut Random) -> Vec<u8> {
         "layer skip",
         "layer skip 1 2",
         "layer skip 3 2",
-    ];
-    random.pick(&lines).as_bytes().to_vec()
+    ]);
+    w.random.pick(&lines).as_bytes().to_vec()
 }
 
 /// A line of the language with something wrong in it, mostly.
@@ -150,7 +161,7 @@ pub fn misspelt(w: &mut Writer) -> Vec<u8> {
         }
         1 => words.insert(at + 1, words[at].clone()),
         2 => words.push(w.random.pick(WORDS).as_bytes().to_vec()),
-        3 => words[at].extend(*w.random.pick(&[b"\t".as_slice(), b"\xff", b"\xc3\xa9", b"\r", b"x", b"#"])),
+        3 => words[at].extend(*w.random.pick(&[b"\t".as_slice(), "\u{e9}".as_bytes(), "\u{2028}".as_bytes(), b"\r", b"x", b"#"])),
         4 => words[at].insert(0, *w.random.pick(b" \t0+-#")),
         5 => return words.join(b"  ".as_slice()),
         _ => words[at] = w.random.pick(WORDS).as_bytes().to_vec(),

@@ -54,7 +54,8 @@ impl Writer {
         self.text.extend_from_slice(line);
         self.text.push(b'\n');
         self.lines += 1;
-        let printed = self.session.line(line);
+        // A carriage return before the line feed belongs to the end of the line.
+        let printed = self.session.line(line.strip_suffix(b"\r").unwrap_or(line));
         self.answers.extend_from_slice(&printed);
         let text = String::from_utf8_lossy(&printed).into_owned();
         text.rsplit_once(" -> ").map_or(String::new(), |(_, answer)| answer.trim_end().to_string())
@@ -88,7 +89,12 @@ impl Writer {
         !self.without.contains(what)
     }
 
-    pub fn done(self) -> Script {
+    pub fn done(mut self) -> Script {
+        if self.random.percent(1) {
+            // A byte that makes the script no text.
+            let at = self.random.below(self.text.len());
+            self.text.insert(at, 0xff);
+        }
         Script {
             seed: self.seed,
             text: self.text,
