@@ -10,7 +10,7 @@ pub fn body(w: &mut Writer, start: &Start, lines: usize) {
     match start.image {
         Image::None => begin_blank(w),
         Image::Sound => begin_sound(w, start),
-        Image::Damaged => begin_damaged(w),
+        Image::Damaged => begin_damaged(w, start),
     }
     while w.lines < lines {
         action(w);
@@ -36,21 +36,21 @@ fn begin_sound(w: &mut Writer, start: &Start) {
     if w.random.percent(25) {
         few(w, 2);
     }
-    if w.random.percent(20) {
-        grant_few(w);
-        open(w);
+    if w.random.percent(30) {
+        open_short(w, start);
     }
     grant_much(w);
     open(w);
-    if let Some(point) = start.tall.and_then(|address| w.order().point(address)) {
-        tall(w, point);
+    if let Some(point) = start.full.and_then(|address| w.order().point(address)) {
+        full(w, point);
     }
 }
 
 /// Lodgings in the full leaf, with every charge that a refusal may turn on.
-fn tall(w: &mut Writer, point: Point) {
-    for charge in [5, 6, 7, 17, 18, 19, 100] {
-        if w.random.percent(60) {
+fn full(w: &mut Writer, point: Point) {
+    let height = w.height();
+    for charge in [height.saturating_sub(1), height, height + 1, 2 * height, 2 * height + 1, 3 * height + 1, 3 * height + 2, 100] {
+        if w.random.percent(40) {
             w.say(format!("grant {charge}"));
             lodge(w, point);
         }
@@ -66,10 +66,16 @@ fn tall(w: &mut Writer, point: Point) {
     }
 }
 
-fn begin_damaged(w: &mut Writer) {
+/// An opening that the charge may not carry.
+fn open_short(w: &mut Writer, start: &Start) {
+    let charge = if w.random.percent(50) { w.random.between(0, 5) } else { w.random.between(0, start.accesses) };
+    w.say(format!("grant {charge}"));
+    open(w);
+}
+
+fn begin_damaged(w: &mut Writer, start: &Start) {
     for _ in 0..w.random.between(0, 3) {
-        grant_few(w);
-        open(w);
+        open_short(w, start);
     }
     grant_much(w);
     open(w);

@@ -23,6 +23,7 @@ impl Census {
         self.lines += lines as u64;
         self.images += script.images.len() as u64;
         self.count(format!("stack {}", script.stack));
+        script.notes.iter().for_each(|note| self.count(note.clone()));
         for line in String::from_utf8_lossy(&script.answers).lines() {
             if let Some((command, answer)) = line.rsplit_once(" -> ") {
                 self.answer(command, answer);

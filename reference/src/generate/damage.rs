@@ -10,6 +10,8 @@ struct Damage<'a> {
     random: &'a mut Random,
     tree: &'a Tree,
     pages: &'a mut [Page],
+    /// A page that is damaged already, and may be again: it then breaks several rules.
+    again: Option<(Spot, TreePage)>,
 }
 
 /// Damages the pages in one way, or rarely in several.
@@ -17,8 +19,8 @@ pub fn damage(random: &mut Random, tree: &Tree, pages: &mut [Page]) {
     if pages.is_empty() {
         return;
     }
-    let times = 1 + random.weighted(&[75, 15, 10]);
-    let mut damage = Damage { random, tree, pages };
+    let times = 1 + random.weighted(&[60, 25, 15]);
+    let mut damage = Damage { random, tree, pages, again: None };
     for _ in 0..times {
         damage.once();
     }
@@ -29,7 +31,7 @@ impl Damage<'_> {
         if self.tree.pages.is_empty() {
             return self.header();
         }
-        match self.random.weighted(&[20, 20, 9, 13, 15, 18, 8, 5]) {
+        match self.random.weighted(&[18, 22, 6, 12, 22, 16, 6, 4]) {
             0 => self.header(),
             1 => self.rule_a(),
             2 => self.rule_b(),
@@ -68,12 +70,21 @@ impl Damage<'_> {
     }
 
     fn any_page(&mut self) -> (Spot, TreePage) {
-        self.random.pick(&self.tree.pages).clone()
+        self.page_of(|_| true).expect("a tree with pages")
     }
 
     fn page_of(&mut self, which: fn(&Spot) -> bool) -> Option<(Spot, TreePage)> {
+        if let Some((spot, page)) = self.again.clone() {
+            if which(&spot) && self.random.percent(60) {
+                return Some((spot, page));
+            }
+        }
         let of: Vec<&(Spot, TreePage)> = self.tree.pages.iter().filter(|(spot, _)| which(spot)).collect();
-        (!of.is_empty()).then(|| (*self.random.pick(&of)).clone())
+        if !of.is_empty() {
+            self.again = Some((*self.random.pick(&of)).clone());
+            return self.again.clone();
+        }
+        None
     }
 
     fn set16(&mut self, number: u16, at: usize, value: u16) {
@@ -96,20 +107,20 @@ impl Damage<'_> {
     /// A number that no page of the tree should name, or that another one names already.
     fn rule_a(&mut self) {
         let last = self.pages.len() as u16;
-        let other = self.any_page().0.number;
+        let other = self.random.pick(&self.tree.pages).0.number;
         let number = match self.random.below(7) {
             0 => 0,
             1 => 1,
-            2 => last.saturating_add(1),
-            3 => 65_535,
-            4 => self.random.between(1, last.into()) as u16,
+            2 | 3 => last.saturating_add(1),
+            4 => 65_535,
+            5 => self.random.between(1, last.into()) as u16,
             _ => other,
         };
         match self.page_of(|spot| spot.level > 1) {
             Some((spot, page)) if self.random.percent(85) => {
                 let entry = self.random.below(page.entries.len());
-                let sibling = self.random.pick(&page.entries).value;
-                let number = if self.random.percent(30) { sibling } else { number };
+                let before = self.random.below(entry + 1);
+                let number = if before < entry { page.entries[before].value } else { number };
                 self.set_value(spot.number, entry, number);
             }
             _ => self.set16(1, 8, number),

@@ -20,6 +20,8 @@ pub struct Script {
     pub answers: Vec<u8>,
     /// The stack that the script ran over, as `slot turned skip`.
     pub stack: String,
+    /// What happened that the answers do not tell.
+    pub notes: Vec<String>,
 }
 
 /// The script of a seed, of 30 to 200 lines.

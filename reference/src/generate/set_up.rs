@@ -13,8 +13,10 @@ use crate::store::{Memory, Page, Slots, Store, MOST, PAGE, SLOT};
 /// What the body of a script should know of what stands.
 pub struct Start {
     pub image: Image,
-    /// An address whose lodging may split a path of six levels.
-    pub tall: Option<u64>,
+    /// The accesses that an opening makes at most.
+    pub accesses: u64,
+    /// An address whose lodging splits a path that is full, or nearly.
+    pub full: Option<u64>,
 }
 
 #[derive(Clone, Copy, PartialEq, Eq)]
@@ -36,7 +38,7 @@ enum Base {
 
 pub fn set_up(w: &mut Writer) -> Start {
     noise(w);
-    let tall = w.random.percent(6);
+    let tall = w.random.percent(9);
     order(w, tall);
     noise(w);
     let base = base(w, tall);
@@ -105,7 +107,8 @@ fn base(w: &mut Writer, tall: bool) -> Base {
 /// How many pages the store has.
 fn size(random: &mut Random, tall: bool) -> u16 {
     if tall {
-        return random.between(150, 230) as u16;
+        let (low, high) = *random.pick(&[(44, 70), (72, 100), (108, 145), (155, 230), (155, 230), (155, 230)]);
+        return random.between(low, high) as u16;
     }
     match random.weighted(&[7, 58, 25, 6, 2, 2]) {
         0 => random.between(0, 8) as u16,
@@ -205,7 +208,7 @@ fn without_image(w: &mut Writer, base: Base) -> Start {
     };
     let (layers, _) = layers(&mut w.random, size);
     say_layers(w, &layers);
-    Start { image: Image::None, tall: None }
+    Start { image: Image::None, accesses: 1, full: None }
 }
 
 fn slot_size(random: &mut Random, tall: bool) -> u16 {
@@ -268,7 +271,7 @@ fn with_image(w: &mut Writer, base: Base, tall: bool) -> Start {
     remember(w, &order, &sound);
     say_image(w, slot, asked, bytes);
     say_layers(w, &layers);
-    Start { image, tall: address }
+    Start { image, accesses: 1 + sound.pages.len() as u64, full: address }
 }
 
 fn other_order(random: &mut Random, order: &Order) -> Order {
@@ -283,16 +286,18 @@ fn other_order(random: &mut Random, order: &Order) -> Order {
 
 /// A tree for the pages 2 to `last`. Sometimes it has more pages than leave six free.
 fn grown(random: &mut Random, order: &Order, last: u16, tall: bool) -> (Tree, Option<u64>) {
-    if tall && last >= 148 && order.space.top() >= 63 {
+    let highest = tree::full_height(order, last);
+    if highest > 0 && (tall || random.percent(30)) {
+        let height = if tall { highest } else { random.between(1, highest.into()) as u8 };
         let short = random.percent(40);
-        let (tree, address) = tree::tall(random, order, last, short);
+        let (tree, address) = tree::full(random, order, last, height, short);
         return (tree, Some(address));
     }
     let sound = tree::most_pages(last);
     let most = match random.weighted(&[70, 20, 4, 6]) {
         0 => sound.min(40),
         1 => sound.min(5),
-        2 => sound,
+        2 => sound.min(400),
         _ => (sound + random.between(1, 6) as usize).min((last as usize).saturating_sub(1)),
     };
     (tree::sound(random, order, last, most), None)

@@ -54,16 +54,26 @@ pub fn sound(random: &mut Random, order: &Order, last: u16, most: usize) -> Tree
     Tree { header: header(order, height, &grower.pages), pages: grower.pages }
 }
 
-/// A tree of height 6 that is full along one path, and an address there that has no event; the pages off the path have one
-/// entry. It has 141 pages. With `short` one page of the path has nine entries.
-pub fn tall(random: &mut Random, order: &Order, last: u16, short: bool) -> (Tree, u64) {
+/// A tree of this height that is full along one path, and an address there that has no event; the pages off the path have
+/// one entry. With `short` one page of the path has nine entries.
+pub fn full(random: &mut Random, order: &Order, last: u16, height: u8, short: bool) -> (Tree, u64) {
     let mut numbers: Vec<u16> = (2..=last).collect();
     random.shuffle(&mut numbers);
     let mut grower = Grower { random, numbers, pages: Vec::new(), fill: 1 };
-    let lacking = if short { grower.random.between(1, 6) as u8 } else { 0 };
+    let lacking = if short { grower.random.between(1, height.into()) as u8 } else { 0 };
     let region = Region { start: 0, end: order.space.top() };
-    let address = grower.full_path(HIGHEST, region, lacking);
-    (Tree { header: header(order, HIGHEST, &grower.pages), pages: grower.pages }, address)
+    let address = grower.full_path(height, region, lacking);
+    (Tree { header: header(order, height, &grower.pages), pages: grower.pages }, address)
+}
+
+/// The greatest height of such a tree on the pages 2 to `last`, so that it leaves six free; 0 if there is none.
+pub fn full_height(order: &Order, last: u16) -> u8 {
+    let fits = |height: u64| {
+        let pages = height + (ENTRIES as u64 - 1) * height * (height - 1) / 2;
+        let addresses = (ENTRIES as u64 - 1) * (height - 1) + ENTRIES as u64 + 1;
+        pages <= most_pages(last) as u64 && addresses - 1 <= order.space.top()
+    };
+    (1..=HIGHEST).take_while(|&height| fits(height.into())).count() as u8
 }
 
 impl Grower<'_> {

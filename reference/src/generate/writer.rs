@@ -25,6 +25,7 @@ pub struct Writer {
     answers: Vec<u8>,
     images: Vec<(String, Vec<u8>)>,
     files: Files,
+    notes: Vec<String>,
     without: String,
 }
 
@@ -43,6 +44,7 @@ impl Writer {
             answers: Vec::new(),
             images: Vec::new(),
             files,
+            notes: Vec::new(),
             without: std::env::var("GENERATE_WITHOUT").unwrap_or_default(),
         }
     }
@@ -55,10 +57,31 @@ impl Writer {
         self.text.push(b'\n');
         self.lines += 1;
         // A carriage return before the line feed belongs to the end of the line.
+        let before = self.known();
         let printed = self.session.line(line.strip_suffix(b"\r").unwrap_or(line));
+        self.note(line, before);
         self.answers.extend_from_slice(&printed);
         let text = String::from_utf8_lossy(&printed).into_owned();
         text.rsplit_once(" -> ").map_or(String::new(), |(_, answer)| answer.trim_end().to_string())
+    }
+
+    /// The height of an open index, and how many pages are free.
+    fn known(&self) -> Option<(u8, usize)> {
+        self.session.index()?.known().map(|known| (known.height, known.free.len()))
+    }
+
+    /// Notes an opening's height, and how a lodge or withdrawal changed the tree's pages.
+    fn note(&mut self, line: &[u8], before: Option<(u8, usize)>) {
+        let Some((height, free)) = self.known() else { return };
+        let call = String::from_utf8_lossy(line).split(' ').next().unwrap_or("").to_string();
+        match before {
+            None => self.notes.push(format!("opened at height {height}")),
+            Some((was, had)) if had != free => {
+                let pages = had as i64 - free as i64;
+                self.notes.push(format!("{call} at height {was}: {pages:+} pages, height {height}"));
+            }
+            _ => {}
+        }
     }
 
     /// Names the bytes as a file that lies beside the script.
@@ -101,6 +124,7 @@ impl Writer {
             images: self.images,
             answers: self.answers,
             stack: self.stack.join(" "),
+            notes: self.notes,
         }
     }
 }
