@@ -157,7 +157,7 @@ fn finish(w: &mut Writer) {
     if w.random.percent(70) {
         grant_much(w);
         open(w);
-        if w.open() && w.with("search") {
+        if w.open() {
             let all = whole(w);
             w.say(format!("search {all}"));
         }
@@ -424,9 +424,6 @@ fn from(w: &mut Writer) -> u64 {
 }
 
 fn search(w: &mut Writer) {
-    if !w.with("search") {
-        return;
-    }
     if w.random.percent(30) {
         grant_few(w);
     }
@@ -455,9 +452,6 @@ fn resumed_at(answer: &str) -> Option<u64> {
 
 /// A search with little room or charge, resumed until it is done.
 fn resume(w: &mut Writer) {
-    if !w.with("search") {
-        return;
-    }
     let all = w.random.percent(60);
     let query = if all { whole(w) } else { query(w) };
     let height = w.height();
@@ -501,7 +495,7 @@ pub fn any_line(w: &mut Writer) -> String {
         1 => format!("withdraw {}", said(w, &point)),
         2 => format!("tally {}", said(w, &point)),
         3 | 4 => question(w),
-        5 if w.with("search") => search_line(w),
+        5 => search_line(w),
         6 => "open".to_string(),
         7 => format!("open work {}", w.random.between(0, 100)),
         8 => format!("grant {}", near_cost(w)),

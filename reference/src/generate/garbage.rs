@@ -103,23 +103,12 @@ const WORDS: &[&str] = &[
     "1\t2", "\t", "\r", "1\r", "\u{a0}", "\u{e9}", "\u{665}", "\u{ff11}", "image", "skip", "z", "#", "->", "\u{1}",
 ];
 
-/// Lines of what the bench does not do yet stay away.
-fn of(w: &Writer, lines: &[&'static str]) -> Vec<&'static str> {
-    let known = |line: &&str| {
-        (w.with("search") || !line.starts_with("search")) && (w.with("slot-image") || line.split(' ').count() != 5)
-    };
-    lines.iter().copied().filter(|line| known(line)).collect()
-}
-
 /// A line that is passed over, is not understood, or asks for something at a wrong place.
 pub fn garbage(w: &mut Writer) -> Vec<u8> {
     match w.random.weighted(&[15, 25, 20, 40]) {
         0 => empty(&mut w.random),
-        1 => {
-            let lines = of(w, LINES);
-            w.random.pick(&lines).as_bytes().to_vec()
-        }
-        2 => late(w),
+        1 => w.random.pick(LINES).as_bytes().to_vec(),
+        2 => late(&mut w.random),
         _ => misspelt(w),
     }
 }
@@ -131,8 +120,8 @@ fn empty(random: &mut Random) -> Vec<u8> {
 }
 
 /// A set-up line, which stands at a wrong place after the set-up.
-fn late(w: &mut Writer) -> Vec<u8> {
-    let lines = of(w, &[
+fn late(random: &mut Random) -> Vec<u8> {
+    let lines = [
         "order z 2 3",
         "order row 9 9",
         "order z 4 15",
@@ -146,8 +135,8 @@ fn late(w: &mut Writer) -> Vec<u8> {
         "layer skip",
         "layer skip 1 2",
         "layer skip 3 2",
-    ]);
-    w.random.pick(&lines).as_bytes().to_vec()
+    ];
+    random.pick(&lines).as_bytes().to_vec()
 }
 
 /// A line of the language with something wrong in it, mostly.

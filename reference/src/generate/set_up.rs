@@ -95,13 +95,11 @@ fn space(random: &mut Random) -> (u64, u64) {
 }
 
 fn base(w: &mut Writer, tall: bool) -> Base {
-    let slot_image = w.with("slot-image");
     if tall {
-        return if slot_image && w.random.percent(20) { Base::SlotImage } else { Base::Image };
+        return if w.random.percent(20) { Base::SlotImage } else { Base::Image };
     }
     let all = [Base::Default, Base::Memory, Base::Erased, Base::Image, Base::Slot, Base::SlotImage];
-    let last = if slot_image { 16 } else { 0 };
-    all[w.random.weighted(&[7, 22, 14, 26, 16, last])]
+    all[w.random.weighted(&[7, 22, 14, 26, 16, 16])]
 }
 
 /// How many pages the store has.

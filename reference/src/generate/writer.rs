@@ -26,7 +26,6 @@ pub struct Writer {
     images: Vec<(String, Vec<u8>)>,
     files: Files,
     notes: Vec<String>,
-    without: String,
 }
 
 impl Writer {
@@ -45,7 +44,6 @@ impl Writer {
             images: Vec::new(),
             files,
             notes: Vec::new(),
-            without: std::env::var("GENERATE_WITHOUT").unwrap_or_default(),
         }
     }
 
@@ -106,10 +104,6 @@ impl Writer {
 
     pub fn charge(&self) -> u64 {
         self.session.store().charge().into()
-    }
-
-    pub fn with(&self, what: &str) -> bool {
-        !self.without.contains(what)
     }
 
     pub fn done(mut self) -> Script {
