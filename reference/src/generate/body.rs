@@ -343,7 +343,7 @@ fn sweep(w: &mut Writer) {
 fn past(w: &mut Writer) {
     let pages = u64::from(w.session.store().size());
     let last = pages.min(20);
-    let page = match w.random.weighted(&[80, 10, 10]) {
+    let page = match w.random.weighted(&[70, 12, 18]) {
         0 => w.random.between(0, last + 1),
         1 => w.random.between(0, pages),
         _ => pages + 1,

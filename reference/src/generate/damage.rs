@@ -19,7 +19,7 @@ pub fn damage(random: &mut Random, tree: &Tree, pages: &mut [Page]) {
     if pages.is_empty() {
         return;
     }
-    let times = 1 + random.weighted(&[60, 25, 15]);
+    let times = 1 + random.weighted(&[70, 20, 10]);
     let mut damage = Damage { random, tree, pages, again: None };
     for _ in 0..times {
         damage.once();
@@ -70,16 +70,16 @@ impl Damage<'_> {
     }
 
     fn any_page(&mut self) -> (Spot, TreePage) {
-        self.page_of(|_| true).expect("a tree with pages")
+        self.page_of(|_, _| true).expect("a tree with pages")
     }
 
-    fn page_of(&mut self, which: fn(&Spot) -> bool) -> Option<(Spot, TreePage)> {
+    fn page_of(&mut self, which: impl Fn(&Spot, &TreePage) -> bool) -> Option<(Spot, TreePage)> {
         if let Some((spot, page)) = self.again.clone() {
-            if which(&spot) && self.random.percent(60) {
+            if which(&spot, &page) && self.random.percent(60) {
                 return Some((spot, page));
             }
         }
-        let of: Vec<&(Spot, TreePage)> = self.tree.pages.iter().filter(|(spot, _)| which(spot)).collect();
+        let of: Vec<&(Spot, TreePage)> = self.tree.pages.iter().filter(|(spot, page)| which(spot, page)).collect();
         if !of.is_empty() {
             self.again = Some((*self.random.pick(&of)).clone());
             return self.again.clone();
@@ -116,7 +116,7 @@ impl Damage<'_> {
             5 => self.random.between(1, last.into()) as u16,
             _ => other,
         };
-        match self.page_of(|spot| spot.level > 1) {
+        match self.page_of(|spot, _| spot.level > 1) {
             Some((spot, page)) if self.random.percent(85) => {
                 let entry = self.random.below(page.entries.len());
                 let before = self.random.below(entry + 1);
@@ -169,32 +169,52 @@ impl Damage<'_> {
     }
 
     fn rule_d(&mut self) {
-        let Some((spot, page)) = self.page_of(|spot| spot.level == 1) else { return };
-        let count = page.entries.len();
-        let entry = self.random.below(count);
-        match self.random.below(6) {
-            0 => self.set_value(spot.number, entry, 0),
-            1 => self.set_key(spot.number, 0, spot.region.start.wrapping_sub(1)),
-            2 => self.set_key(spot.number, count - 1, spot.region.end + 1),
-            3 => self.set_key(spot.number, entry, u64::MAX),
-            4 => self.set_key(spot.number, entry, page.entries[count - 1].key),
-            _ => self.set_key(spot.number, entry, page.entries[0].key),
+        let kind = self.random.below(7);
+        let suits = |spot: &Spot, page: &TreePage| {
+            let rises = (3..6).contains(&kind);
+            spot.level == 1 && (page.entries.len() > 1 || !rises) && (spot.region.start > 0 || kind != 1)
+        };
+        let Some((spot, page)) = self.page_of(suits) else { return };
+        let last = page.entries.len() - 1;
+        match kind {
+            0 => {
+                let entry = self.random.below(last + 1);
+                self.set_value(spot.number, entry, 0);
+            }
+            1 => self.set_key(spot.number, 0, spot.region.start - 1),
+            2 => self.set_key(spot.number, last, spot.region.end + 1),
+            3..=5 => self.neighbours(&spot, &page, last + 1, kind == 3),
+            _ => self.set_key(spot.number, last, u64::MAX),
         }
     }
 
     fn rule_e(&mut self) {
-        let Some((spot, page)) = self.page_of(|spot| spot.level > 1) else { return };
-        let count = page.entries.len();
-        let entry = self.random.below(count);
-        let key = match self.random.below(6) {
-            0 => return self.set_key(spot.number, count - 1, spot.region.end),
-            1 => return self.set_key(spot.number, count - 1, 1),
-            2 => spot.region.end,
-            3 => spot.region.start.wrapping_sub(1),
-            4 => u64::MAX,
-            _ => page.entries[0].key,
+        let kind = self.random.below(8);
+        let suits = |spot: &Spot, page: &TreePage| {
+            let entries = if kind < 2 { 1 } else if kind < 6 { 2 } else { 3 };
+            spot.level > 1 && page.entries.len() >= entries && (spot.region.start > 0 || kind != 4)
         };
-        self.set_key(spot.number, entry, key);
+        let Some((spot, page)) = self.page_of(suits) else { return };
+        let last = page.entries.len() - 1;
+        match kind {
+            0 => self.set_key(spot.number, last, spot.region.end),
+            1 => self.set_key(spot.number, last, 1),
+            2 => self.set_key(spot.number, last - 1, spot.region.end),
+            3 => self.set_key(spot.number, last - 1, spot.region.end + 1),
+            4 => self.set_key(spot.number, 0, spot.region.start - 1),
+            5 => self.set_key(spot.number, last - 1, u64::MAX),
+            _ => self.neighbours(&spot, &page, last, kind == 6),
+        }
+    }
+
+    /// Makes the keys of two neighbours among the first `count` entries equal, or swaps them.
+    fn neighbours(&mut self, spot: &Spot, page: &TreePage, count: usize, equal: bool) {
+        let entry = self.random.below(count - 1);
+        let (key, next) = (page.entries[entry].key, page.entries[entry + 1].key);
+        self.set_key(spot.number, entry, next);
+        if !equal {
+            self.set_key(spot.number, entry + 1, key);
+        }
     }
 
     fn rule_f(&mut self) {

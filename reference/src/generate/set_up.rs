@@ -99,7 +99,7 @@ fn base(w: &mut Writer, tall: bool) -> Base {
         return if w.random.percent(20) { Base::SlotImage } else { Base::Image };
     }
     let all = [Base::Default, Base::Memory, Base::Erased, Base::Image, Base::Slot, Base::SlotImage];
-    all[w.random.weighted(&[7, 22, 14, 26, 16, 16])]
+    all[w.random.weighted(&[6, 18, 10, 34, 14, 18])]
 }
 
 /// How many pages the store has.
@@ -108,13 +108,13 @@ fn size(random: &mut Random, tall: bool) -> u16 {
         let (low, high) = *random.pick(&[(44, 70), (72, 100), (108, 145), (155, 230), (155, 230), (155, 230)]);
         return random.between(low, high) as u16;
     }
-    match random.weighted(&[7, 58, 25, 6, 2, 2]) {
+    match random.weighted(&[6, 58, 25, 5, 4, 2]) {
         0 => random.between(0, 8) as u16,
         1 => random.between(9, 30) as u16,
         2 => random.between(30, 90) as u16,
         3 => random.between(90, 300) as u16,
-        4 => random.between(1020, 1030) as u16,
-        _ => random.between(1000, 3000) as u16,
+        4 => random.between(1020, 1040) as u16,
+        _ => random.between(1020, 3000) as u16,
     }
 }
 
@@ -127,7 +127,7 @@ fn layers(random: &mut Random, size: u16) -> (Vec<LayerLine>, u16) {
             layers.push(LayerLine::Turned);
             continue;
         }
-        let bad = if random.percent(4) { wrong_list(random, size) } else { right_list(random, size) };
+        let bad = if random.percent(7) { wrong_list(random, size) } else { right_list(random, size) };
         let left = size.saturating_sub(bad.len() as u16).min(MOST);
         size = if skip_allowed(&bad, size).is_ok() { left } else { 0 };
         layers.push(LayerLine::Skip { bad });
@@ -253,16 +253,21 @@ fn with_image(w: &mut Writer, base: Base, tall: bool) -> Start {
     let last = size.min(MOST);
     let order = w.session.order();
     let order = if random.percent(5) { other_order(random, order) } else { *order };
-    let (sound, address) = grown(random, &order, last, tall);
+    let (mut sound, address) = grown(random, &order, last, tall);
+    let (below, last) = if tall && random.percent(80) {
+        (below, last)
+    } else {
+        tightened(random, &mut sound, below, last, &layers)
+    };
     let mut pages = tree::pages(random, &sound, last);
     let mut image = Image::Sound;
-    if random.percent(if tall { 10 } else { 55 }) {
+    if random.percent(if tall { 10 } else { 65 }) {
         damage(random, &sound, &mut pages);
         image = Image::Damaged;
     }
     let mut bytes = lent(random, slot, below, &layers, &pages);
     let mut asked = below;
-    if slot && random.percent(15) {
+    if slot && random.percent(30) {
         asked = spoil_slots(random, &mut bytes, below);
         image = Image::Damaged;
     }
@@ -299,6 +304,21 @@ fn grown(random: &mut Random, order: &Order, last: u16, tall: bool) -> (Tree, Op
         _ => (sound + random.between(1, 6) as usize).min((last as usize).saturating_sub(1)),
     };
     (tree::sound(random, order, last, most), None)
+}
+
+/// Sometimes the memory is made smaller, so that about six pages are left free.
+fn tightened(random: &mut Random, tree: &mut Tree, below: u16, last: u16, layers: &[LayerLine]) -> (u16, u16) {
+    let less = 1 + tree.pages.len() as u16 + *random.pick(&[4, 5, 6, 6, 7, 8, 12]);
+    if tree.pages.is_empty() || less >= last || random.percent(50) {
+        return (below, last);
+    }
+    let below_less = below - (last - less);
+    let zeros = Box::new(Memory::new(vec![0; below_less as usize * PAGE]));
+    if pile(zeros, layers).size() != less {
+        return (below, last);
+    }
+    tree.renumber(random, less);
+    (below_less, less)
 }
 
 fn lent(random: &mut Random, slot: bool, below: u16, layers: &[LayerLine], pages: &[Page]) -> Vec<u8> {

@@ -14,6 +14,24 @@ pub struct Tree {
     pub pages: Vec<(Spot, TreePage)>,
 }
 
+impl Tree {
+    /// Puts the tree on other pages, of 2 to `last`.
+    pub fn renumber(&mut self, random: &mut Random, last: u16) {
+        let mut numbers: Vec<u16> = (2..=last).collect();
+        random.shuffle(&mut numbers);
+        let old: Vec<u16> = self.pages.iter().map(|(spot, _)| spot.number).collect();
+        let new = |number: u16| numbers[old.iter().position(|&o| o == number).expect("a page of the tree")];
+        self.header.root = new(self.header.root);
+        for (spot, page) in &mut self.pages {
+            spot.number = new(spot.number);
+            page.number = spot.number;
+            if spot.level > 1 {
+                page.entries.iter_mut().for_each(|entry| entry.value = new(entry.value));
+            }
+        }
+    }
+}
+
 struct Grower<'a> {
     random: &'a mut Random,
     /// Page numbers not yet used, in the order of their use.
