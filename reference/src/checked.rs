@@ -224,9 +224,7 @@ impl<S: Store> Checked<S> {
         for find in &found.finds {
             assert_eq!(order.point(find.address), Some(find.point), "the point of a find");
         }
-        let meets = |region: &Region| {
-            order.first(b, start.max(region.start)).is_some_and(|first| first <= region.end)
-        };
+        let meets = |region: &Region| order.first(b, start.max(region.start)).is_some_and(|first| first <= region.end);
         let spots = self.tree().spots;
         let pages: Vec<&Spot> = spots.iter().filter(|s| meets(&s.region)).collect();
         match found.ending {

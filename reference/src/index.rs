@@ -237,9 +237,7 @@ impl<S: Store> Index<S> {
     /// free list as it was.
     fn replace(&mut self, known: Known, path: &[Step], pages: &[TreePage]) -> Result<(), Refusal> {
         for page in pages {
-            self.store
-                .write(page.number, &page.encode())
-                .map_err(|fault| unwritten(fault, page.number, page.level))?;
+            self.store.write(page.number, &page.encode()).map_err(|fault| unwritten(fault, page.number, page.level))?;
         }
         let root = pages.last().map_or(0, |page| page.number);
         let mut free = known.free[pages.len()..].to_vec();

@@ -26,13 +26,7 @@ impl Space {
     }
 
     pub fn has(&self, point: &Point) -> bool {
-        (0..4).all(|j| {
-            if j < self.n as usize {
-                point[j] < 1 << self.p
-            } else {
-                point[j] == 0
-            }
-        })
+        (0..4).all(|j| if j < self.n as usize { point[j] < 1 << self.p } else { point[j] == 0 })
     }
 }
 
@@ -173,8 +167,7 @@ impl Order {
             return Some(start);
         }
         let half = bits - 1;
-        self.first_by_halves(b, from, start, half)
-            .or_else(|| self.first_by_halves(b, from, start + (1 << half), half))
+        self.first_by_halves(b, from, start, half).or_else(|| self.first_by_halves(b, from, start + (1 << half), half))
     }
 }
 

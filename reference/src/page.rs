@@ -42,10 +42,8 @@ impl Header {
             root: u16::from_le_bytes([page[8], page[9]]),
             total: u32::from_le_bytes([page[12], page[13], page[14], page[15]]),
         };
-        let ranges = header.kind >= 1
-            && (1..=4).contains(&header.n)
-            && (1..=15).contains(&header.p)
-            && header.height <= HIGHEST;
+        let ranges =
+            header.kind >= 1 && (1..=4).contains(&header.n) && (1..=15).contains(&header.p) && header.height <= HIGHEST;
         let zeros = zero(&page[10..12]) && zero(&page[16..]);
         let empty = [header.height == 0, header.root == 0, header.total == 0];
         let one_of_two = empty == [true; 3] || empty == [false; 3];

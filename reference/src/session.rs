@@ -9,6 +9,7 @@ use crate::store::{slots_allowed, Memory, Slots, Store, PAGE, SLOT};
 use crate::text::{Fault, Refusal};
 
 type Pile = Box<dyn Store>;
+type ReadFile = Box<dyn Fn(&[u8]) -> Option<Vec<u8>>>;
 
 /// How far the set-up has come: what may still follow.
 #[derive(Clone, Copy, PartialEq, Eq, PartialOrd, Ord, Debug)]
@@ -39,7 +40,7 @@ enum Standing {
 }
 
 pub struct Session {
-    read_file: Box<dyn Fn(&[u8]) -> Option<Vec<u8>>>,
+    read_file: ReadFile,
     order: Order,
     stage: Stage,
     layers: u8,
@@ -209,9 +210,7 @@ impl Session {
 
     fn set_store(&mut self, line: StoreLine) -> Vec<u8> {
         let (pile, answer): (Pile, String) = match line {
-            StoreLine::Memory { pages, byte } => {
-                (Box::new(Memory::new(vec![byte; pages as usize * PAGE])), ok())
-            }
+            StoreLine::Memory { pages, byte } => (Box::new(Memory::new(vec![byte; pages as usize * PAGE])), ok()),
             StoreLine::Image { file } => match (self.read_file)(&file) {
                 Some(bytes) => (Box::new(Memory::new(bytes)), ok()),
                 None => return [b"cannot read ", file.as_slice()].concat(),
@@ -310,9 +309,7 @@ impl Session {
                 Ok(found) => found_text(&found, n),
                 Err(refusal) => refusal.text(),
             },
-            Line::Read(page) => {
-                self.past(false, |store| store.read(page)).map_or_else(faulted, |bytes| hex(&bytes))
-            }
+            Line::Read(page) => self.past(false, |store| store.read(page)).map_or_else(faulted, |bytes| hex(&bytes)),
             Line::Write { page, byte } => {
                 self.past(true, |store| store.write(page, &[byte; PAGE])).map_or_else(faulted, |()| ok())
             }

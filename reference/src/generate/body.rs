@@ -49,7 +49,9 @@ fn begin_sound(w: &mut Writer, start: &Start) {
 /// Lodgings in the full leaf, with every charge that a refusal may turn on.
 fn full(w: &mut Writer, point: Point) {
     let height = w.height();
-    for charge in [height.saturating_sub(1), height, height + 1, 2 * height, 2 * height + 1, 3 * height + 1, 3 * height + 2, 100] {
+    for charge in
+        [height.saturating_sub(1), height, height + 1, 2 * height, 2 * height + 1, 3 * height + 1, 3 * height + 2, 100]
+    {
         if w.random.percent(40) {
             w.say(format!("grant {charge}"));
             lodge(w, point);

@@ -31,7 +31,7 @@ impl Damage<'_> {
         if self.tree.pages.is_empty() {
             return self.header();
         }
-        match self.random.weighted(&[18, 22, 6, 12, 22, 16, 6, 4]) {
+        match self.random.weighted(&[20, 18, 6, 12, 19, 19, 4, 2]) {
             0 => self.header(),
             1 => self.rule_a(),
             2 => self.rule_b(),
@@ -174,7 +174,7 @@ impl Damage<'_> {
             let rises = (3..6).contains(&kind);
             spot.level == 1 && (page.entries.len() > 1 || !rises) && (spot.region.start > 0 || kind != 1)
         };
-        let Some((spot, page)) = self.page_of(suits) else { return };
+        let Some((spot, page)) = self.page_of(suits) else { return self.once() };
         let last = page.entries.len() - 1;
         match kind {
             0 => {
@@ -191,10 +191,16 @@ impl Damage<'_> {
     fn rule_e(&mut self) {
         let kind = self.random.below(8);
         let suits = |spot: &Spot, page: &TreePage| {
-            let entries = if kind < 2 { 1 } else if kind < 6 { 2 } else { 3 };
+            let entries = if kind < 2 {
+                1
+            } else if kind < 6 {
+                2
+            } else {
+                3
+            };
             spot.level > 1 && page.entries.len() >= entries && (spot.region.start > 0 || kind != 4)
         };
-        let Some((spot, page)) = self.page_of(suits) else { return };
+        let Some((spot, page)) = self.page_of(suits) else { return self.once() };
         let last = page.entries.len() - 1;
         match kind {
             0 => self.set_key(spot.number, last, spot.region.end),

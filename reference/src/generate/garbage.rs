@@ -98,9 +98,42 @@ const LINES: &[&str] = &[
 ];
 
 const WORDS: &[&str] = &[
-    "65535", "65536", "256", "255", "4294967295", "4294967296", "18446744073709551615", "18446744073709551616", "-1", "+1",
-    "0x10", "1.0", "1e3", "x", "007", "00000000000000000000000000000000000000001", "0", "1", "from", "room", "work", "work\t64",
-    "1\t2", "\t", "\r", "1\r", "\u{a0}", "\u{e9}", "\u{665}", "\u{ff11}", "image", "skip", "z", "#", "->", "\u{1}",
+    "65535",
+    "65536",
+    "256",
+    "255",
+    "4294967295",
+    "4294967296",
+    "18446744073709551615",
+    "18446744073709551616",
+    "-1",
+    "+1",
+    "0x10",
+    "1.0",
+    "1e3",
+    "x",
+    "007",
+    "00000000000000000000000000000000000000001",
+    "0",
+    "1",
+    "from",
+    "room",
+    "work",
+    "work\t64",
+    "1\t2",
+    "\t",
+    "\r",
+    "1\r",
+    "\u{a0}",
+    "\u{e9}",
+    "\u{665}",
+    "\u{ff11}",
+    "image",
+    "skip",
+    "z",
+    "#",
+    "->",
+    "\u{1}",
 ];
 
 /// A line that is passed over, is not understood, or asks for something at a wrong place.
@@ -114,8 +147,19 @@ pub fn garbage(w: &mut Writer) -> Vec<u8> {
 }
 
 fn empty(random: &mut Random) -> Vec<u8> {
-    let lines: &[&[u8]] =
-        &[b"", b" ", b"     ", b"# a remark", b"#", b"#lodge 1 1", b" # no remark", b"\t", b"\r", "## \u{e9}\u{2028}".as_bytes(), b" \t "];
+    let lines: &[&[u8]] = &[
+        b"",
+        b" ",
+        b"     ",
+        b"# a remark",
+        b"#",
+        b"#lodge 1 1",
+        b" # no remark",
+        b"\t",
+        b"\r",
+        "## \u{e9}\u{2028}".as_bytes(),
+        b" \t ",
+    ];
     random.pick(lines).to_vec()
 }
 
@@ -150,7 +194,14 @@ pub fn misspelt(w: &mut Writer) -> Vec<u8> {
         }
         1 => words.insert(at + 1, words[at].clone()),
         2 => words.push(w.random.pick(WORDS).as_bytes().to_vec()),
-        3 => words[at].extend(*w.random.pick(&[b"\t".as_slice(), "\u{e9}".as_bytes(), "\u{2028}".as_bytes(), b"\r", b"x", b"#"])),
+        3 => words[at].extend(*w.random.pick(&[
+            b"\t".as_slice(),
+            "\u{e9}".as_bytes(),
+            "\u{2028}".as_bytes(),
+            b"\r",
+            b"x",
+            b"#",
+        ])),
         4 => words[at].insert(0, *w.random.pick(b" \t0+-#")),
         5 => return words.join(b"  ".as_slice()),
         _ => words[at] = w.random.pick(WORDS).as_bytes().to_vec(),

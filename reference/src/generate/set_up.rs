@@ -76,16 +76,28 @@ fn order(w: &mut Writer, tall: bool) {
         return;
     }
     let kind = *w.random.pick(&["z", "z", "row"]);
-    let (n, p) = if tall {
-        *w.random.pick(&[(1, 10), (2, 4), (2, 15), (3, 3), (4, 2), (4, 15)])
-    } else {
-        space(&mut w.random)
-    };
+    let (n, p) =
+        if tall { *w.random.pick(&[(1, 10), (2, 4), (2, 15), (3, 3), (4, 2), (4, 15)]) } else { space(&mut w.random) };
     w.say(format!("order {kind} {n} {p}"));
 }
 
 fn space(random: &mut Random) -> (u64, u64) {
-    let small = [(1, 1), (1, 4), (1, 8), (2, 1), (2, 2), (2, 3), (2, 3), (2, 4), (2, 5), (3, 2), (3, 3), (4, 1), (4, 2), (4, 3)];
+    let small = [
+        (1, 1),
+        (1, 4),
+        (1, 8),
+        (2, 1),
+        (2, 2),
+        (2, 3),
+        (2, 3),
+        (2, 4),
+        (2, 5),
+        (3, 2),
+        (3, 3),
+        (4, 1),
+        (4, 2),
+        (4, 3),
+    ];
     let large = [(1, 15), (2, 10), (2, 15), (3, 15), (4, 15), (4, 15), (4, 14), (3, 7)];
     match random.weighted(&[50, 30, 20]) {
         0 => *random.pick(&small),
@@ -249,16 +261,15 @@ fn with_image(w: &mut Writer, base: Base, tall: bool) -> Start {
     let slot = base == Base::SlotImage;
     let random = &mut w.random;
     let below = if slot { slot_size(random, tall).clamp(1, MOST) } else { size(random, tall) };
+    // A larger memory, mostly, for a tree with more pages.
+    let below = if tall { below } else { below.max(size(random, false).min(90)) };
     let (layers, size) = layers(random, below);
     let last = size.min(MOST);
     let order = w.session.order();
     let order = if random.percent(5) { other_order(random, order) } else { *order };
     let (mut sound, address) = grown(random, &order, last, tall);
-    let (below, last) = if tall && random.percent(80) {
-        (below, last)
-    } else {
-        tightened(random, &mut sound, below, last, &layers)
-    };
+    let (below, last) =
+        if tall && random.percent(80) { (below, last) } else { tightened(random, &mut sound, below, last, &layers) };
     let mut pages = tree::pages(random, &sound, last);
     let mut image = Image::Sound;
     if random.percent(if tall { 10 } else { 65 }) {
@@ -366,7 +377,8 @@ fn remember(w: &mut Writer, order: &Order, tree: &Tree) {
 
 fn say_image(w: &mut Writer, slot: bool, pages: u16, bytes: Vec<u8>) {
     while w.random.percent(5) {
-        let line = if slot { format!("store slot {pages} image no-such-file") } else { "store image no-such-file".into() };
+        let line =
+            if slot { format!("store slot {pages} image no-such-file") } else { "store image no-such-file".into() };
         w.say(line);
     }
     let name = w.image(bytes);
