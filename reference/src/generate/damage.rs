@@ -31,7 +31,7 @@ impl Damage<'_> {
         if self.tree.pages.is_empty() {
             return self.header();
         }
-        match self.random.weighted(&[20, 18, 6, 12, 19, 19, 4, 2]) {
+        match self.random.weighted(&[16, 18, 5, 12, 20, 24, 3, 2]) {
             0 => self.header(),
             1 => self.rule_a(),
             2 => self.rule_b(),

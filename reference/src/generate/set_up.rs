@@ -111,7 +111,7 @@ fn base(w: &mut Writer, tall: bool) -> Base {
         return if w.random.percent(20) { Base::SlotImage } else { Base::Image };
     }
     let all = [Base::Default, Base::Memory, Base::Erased, Base::Image, Base::Slot, Base::SlotImage];
-    all[w.random.weighted(&[6, 18, 10, 34, 14, 18])]
+    all[w.random.weighted(&[5, 15, 9, 43, 12, 16])]
 }
 
 /// How many pages the store has.
@@ -120,7 +120,7 @@ fn size(random: &mut Random, tall: bool) -> u16 {
         let (low, high) = *random.pick(&[(44, 70), (72, 100), (108, 145), (155, 230), (155, 230), (155, 230)]);
         return random.between(low, high) as u16;
     }
-    match random.weighted(&[6, 58, 25, 5, 4, 2]) {
+    match random.weighted(&[6, 55, 25, 5, 5, 4]) {
         0 => random.between(0, 8) as u16,
         1 => random.between(9, 30) as u16,
         2 => random.between(30, 90) as u16,
@@ -272,7 +272,7 @@ fn with_image(w: &mut Writer, base: Base, tall: bool) -> Start {
         if tall && random.percent(80) { (below, last) } else { tightened(random, &mut sound, below, last, &layers) };
     let mut pages = tree::pages(random, &sound, last);
     let mut image = Image::Sound;
-    if random.percent(if tall { 10 } else { 65 }) {
+    if random.percent(if tall { 10 } else { 72 }) {
         damage(random, &sound, &mut pages);
         image = Image::Damaged;
     }
@@ -308,7 +308,7 @@ fn grown(random: &mut Random, order: &Order, last: u16, tall: bool) -> (Tree, Op
         return (tree, Some(address));
     }
     let sound = tree::most_pages(last);
-    let most = match random.weighted(&[70, 20, 4, 6]) {
+    let most = match random.weighted(&[80, 8, 5, 7]) {
         0 => sound.min(40),
         1 => sound.min(5),
         2 => sound.min(400),

@@ -62,7 +62,7 @@ pub fn sound(random: &mut Random, order: &Order, last: u16, most: usize) -> Tree
     numbers.truncate(most);
     let highest = HIGHEST.min(numbers.len().min(6) as u8);
     let height = if highest == 0 || random.percent(4) { 0 } else { random.between(1, highest.into()) as u8 };
-    let fill = random.between(1, ENTRIES as u64);
+    let fill = random.between(2, ENTRIES as u64);
     numbers.reverse();
     let mut grower = Grower { random, numbers, pages: Vec::new(), fill };
     if height > 0 {
