@@ -4,12 +4,14 @@ mod map;
 mod order;
 mod plain;
 mod proved;
+mod second;
 mod subject;
 mod tree;
 mod work;
 
 use plain::{PlainMap, PlainTree};
 use proved::Proved;
+use second::Second;
 use std::time::Duration;
 use subject::{Measured, Subject};
 use work::{Space, Work, work};
@@ -60,47 +62,58 @@ impl Row {
     }
 }
 
-fn ratio(ours: f64, other: Option<&Row>) -> String {
-    other.map_or("".into(), |row| format!("{:.2}", ours / row.nanoseconds()))
-}
-
 fn time(row: Option<&Row>) -> String {
     row.map_or("".into(), |row| format!("{:.0}", row.nanoseconds()))
 }
 
+fn ratio(ours: &Row, other: Option<&Row>) -> String {
+    other.map_or("".into(), |row| format!("{:.2}", ours.nanoseconds() / row.nanoseconds()))
+}
+
+/// The others' rows of the same operation, which must have the same answer and as many page accesses.
+fn beside<'a>(ours: &Row, others: [&'a [Row]; 3]) -> [Option<&'a Row>; 3] {
+    others.map(|rows| {
+        let row = rows.iter().find(|row| row.operation == ours.operation)?;
+        assert_eq!(ours.answer, row.answer, "{}: two programs answer differently", ours.operation);
+        if let (Some(a), Some(b)) = (ours.accesses, row.accesses) {
+            assert_eq!(a, b, "{}: two programs make different page accesses", ours.operation);
+        }
+        Some(row)
+    })
+}
+
+fn print_row(ours: &Row, others: [Option<&Row>; 3]) {
+    let [second, tree, map] = others;
+    let accesses = ours.accesses_per_call().or(second.and_then(Row::accesses_per_call));
+    let finds = if ours.operation.starts_with("search") { format!("{:.1}", ours.answer as f64 / ours.calls as f64) } else { "".into() };
+    println!(
+        "| {} | {} | {finds} | {} | {} | {} | {} | {} | {} | {} |",
+        ours.operation,
+        accesses.map_or("".into(), |a| format!("{a:.1}")),
+        time(Some(ours)),
+        time(second),
+        time(tree),
+        time(map),
+        ratio(ours, second),
+        ratio(ours, tree),
+        ratio(ours, map),
+    );
+}
+
 fn compare(work: &Work, rounds: usize) {
-    let mut programs: [Vec<Row>; 3] = [vec![], vec![], vec![]];
+    let (mut ours, mut second, mut tree, mut map) = (vec![], vec![], vec![], vec![]);
     for _ in 0..rounds {
-        round::<Proved>(work, &mut programs[0]);
-        round::<PlainTree>(work, &mut programs[1]);
-        round::<PlainMap>(work, &mut programs[2]);
+        round::<Proved>(work, &mut ours);
+        round::<Second>(work, &mut second);
+        round::<PlainTree>(work, &mut tree);
+        round::<PlainMap>(work, &mut map);
     }
     let Space { n, p } = work.space;
-    println!("n = {n}, p = {p}: {} events lodged in 1,024 pages; times in nanoseconds a call, median of {rounds} rounds\n", work.events.len());
-    println!("| operation | index | plain tree | map | index / plain tree | index / map | accesses a call | finds a call |");
-    println!("|---|---|---|---|---|---|---|---|");
-    let [ours, tree, map] = &programs;
-    for row in ours {
-        let tree = tree.iter().find(|other| other.operation == row.operation);
-        let map = map.iter().find(|other| other.operation == row.operation);
-        for other in [tree, map].into_iter().flatten() {
-            assert_eq!(row.answer, other.answer, "{}: two programs answer differently", row.operation);
-        }
-        if let (Some(a), Some(b)) = (row.accesses, tree.and_then(|r| r.accesses)) {
-            assert_eq!(a, b, "{}: two programs read differently", row.operation);
-        }
-        let accesses = row.accesses_per_call().or(tree.and_then(Row::accesses_per_call));
-        let ns = row.nanoseconds();
-        println!(
-            "| {} | {ns:.0} | {} | {} | {} | {} | {} | {:.1} |",
-            row.operation,
-            time(tree),
-            time(map),
-            ratio(ns, tree),
-            ratio(ns, map),
-            accesses.map_or("".into(), |a| format!("{a:.1}")),
-            row.answer as f64 / row.calls as f64,
-        );
+    println!("n = {n}, p = {p}; {} events lodged in 1,024 pages; nanoseconds a call, the median of {rounds} rounds\n", work.events.len());
+    println!("| call | page accesses | finds | index | second program | plain tree | map | index / second | index / tree | index / map |");
+    println!("|---|---|---|---|---|---|---|---|---|---|");
+    for row in &ours {
+        print_row(row, beside(row, [&second, &tree, &map]));
     }
     println!();
 }

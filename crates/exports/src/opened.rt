@@ -14,7 +14,10 @@ pub struct Terms {
 }
 
 // An index, shut; or the number of the refusal of its space.
-pub(crate) fn shut_index<S: PageStore + Drop>(store: S, terms: Terms) -> Result<Index<S, ZOrder>, u8> {
+pub(crate) fn shut_index<S: PageStore + Drop>(
+    store: S,
+    terms: Terms,
+) -> Result<Index<S, ZOrder>, u8> {
     let space = match Space::new(terms.n, terms.p) {
         Ok(space) => space,
         Err(refusal) => return Err(refusal.number()),
@@ -25,7 +28,10 @@ pub(crate) fn shut_index<S: PageStore + Drop>(store: S, terms: Terms) -> Result<
 }
 
 // An index, open.
-pub(crate) fn open_index<S: PageStore + Drop>(store: S, terms: Terms) -> Result<Index<S, ZOrder>, u8> {
+pub(crate) fn open_index<S: PageStore + Drop>(
+    store: S,
+    terms: Terms,
+) -> Result<Index<S, ZOrder>, u8> {
     let mut index = shut_index(store, terms)?;
     let mut work = [Visit::default(); 64];
     match index.open(&mut work) {
