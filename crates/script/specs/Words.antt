@@ -1,5 +1,5 @@
 -- What a row of words writes.
-use Rattle.std.specs.Prelude.{◌≡◌, ℕ, ◌+◌, ◌-◌, ◌^◌, ◌<◌, List, [], map, length, take, drop, Some, None, slice_index, slice_index_or}
+use Rattle.std.specs.Prelude.{◌≡◌, ℕ, ◌+◌, ◌-◌, ◌^◌, ◌<◌, ◌⊎◌, List, [], ◌∷◌, map, length, take, drop, Some, None, slice_index, slice_index_or}
 use Rattle.std.specs.Borrow.{Bor}
 use Rattle.orders.specs.declared.point.Point.{Point}
 use Rattle.orders.specs.declared.refusal.Refusal.TheVariants.{BoxEnds}
@@ -12,6 +12,15 @@ use Rattle.script.specs.declared.trouble.Trouble.TheVariants.{Refused, Unclear, 
 -- the bytes of each word
 abbrev pub texts : List (Bor (List ℕ)) → List (List ℕ)
 texts ws = map (λ w. w.now) ws
+
+-- the word is one of these
+abbrev pub IsOneOf : List (List ℕ) → List ℕ → Type 0
+IsOneOf [] w = ⊥
+IsOneOf (v ∷ vs) w = (w ≡ v) ⊎ IsOneOf vs w
+
+-- the word in the place i writes the number, which is no greater than the limit
+abbrev pub NumberAt : List (List ℕ) → ℕ → ℕ → ℕ → Type 0
+NumberAt ws i limit v = NumberIs (slice_index_or ws i []) limit (Some v)
 
 -- each word writes the number in its place, of 64 bits at most
 abbrev pub Numbers : List (List ℕ) → List ℕ → Type 0

@@ -1,4 +1,8 @@
 // Lines that call: a question to the order, an access to the store, or a call of the index.
+ghost use Rattle.std.specs.Prelude.{MatchOption, MatchResult};
+ghost use Rattle.script.specs.Words.{texts, IsOneOf};
+ghost use Rattle.script.specs.Calling.{access_verbs, Accesses};
+
 use crate::parse::{parse_as, parse_box, parse_point, parse_question};
 use crate::question::Question;
 use crate::reason::Reason;
@@ -56,7 +60,13 @@ const WORK: u32 = 64;
 // For so many finds a search has room where the line does not say.
 const ROOM: u32 = 1000;
 
-fn parse_access(verb: &str, words: &[&str]) -> Result<Option<Access>, Reason> {
+fn parse_access(verb: &str, words: &[&str]) -> Result<Option<Access>, Reason>
+    ensures {
+        MatchResult result
+            (λ read. MatchOption read (¬ IsOneOf access_verbs verb.now) (Accesses verb.now (texts words.now)))
+            (λ _. IsOneOf access_verbs verb.now × ((a : Access) → ¬ Accesses verb.now (texts words.now) a))
+    }
+{
     match (verb, words) {
         ("read", [page]) => Ok(Some(Access::Read(parse_as(page)?))),
         ("write", [page, byte]) => Ok(Some(Access::Write(parse_as(page)?, parse_as(byte)?))),
