@@ -1,3 +1,5 @@
 pub mod Readings
 pub mod Rows
 pub mod Asked
+pub mod Verbs
+pub mod Called

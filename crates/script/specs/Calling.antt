@@ -1,8 +1,11 @@
 -- Which words write which call. A call's first word says what is called.
-use Rattle.std.specs.Prelude.{◌≡◌, ℕ, ◌-◌, ◌^◌, List, [], ◌∷◌, length, codes}
-use Rattle.script.specs.Words.{NumberAt}
+use Rattle.std.specs.Prelude.{◌≡◌, ℕ, ◌-◌, ◌^◌, ◌⊎◌, List, [], ◌∷◌, ◌++◌, length, codes, slice_index_or}
+use Rattle.orders.specs.declared.point.Point.{Point}
+use Rattle.script.specs.Words.{NumberAt, Written, Ends}
 use Rattle.script.specs.declared.call.Access.{Access}
 use Rattle.script.specs.declared.call.Access.TheVariants.{Read, Write}
+use Rattle.script.specs.declared.call.IndexCall.{IndexCall}
+use Rattle.script.specs.declared.call.IndexCall.TheVariants.{Grant, Format, Open, Shut, Lodge, Withdraw, Tally, Search}
 
 -- the first words of the accesses to the store
 abbrev pub access_verbs : List (List ℕ)
@@ -12,3 +15,31 @@ access_verbs = codes "read" ∷ codes "write" ∷ []
 abbrev pub Accesses : List ℕ → List (List ℕ) → Access → Type 0
 Accesses verb ws (Read page) = (verb ≡ codes "read") × (length ws ≡ 1) × NumberAt ws 0 (2 ^ 16 - 1) page
 Accesses verb ws (Write page byte) = (verb ≡ codes "write") × (length ws ≡ 2) × NumberAt ws 0 (2 ^ 16 - 1) page × NumberAt ws 1 (2 ^ 8 - 1) byte
+
+-- a number is given by its name and itself; or no word is there, and it is the usual one
+abbrev pub Given : List ℕ → ℕ → ℕ → List (List ℕ) → ℕ → Type 0
+Given name usual limit ws v = ((length ws ≡ 0) × (v ≡ usual)) ⊎ ((length ws ≡ 2) × (slice_index_or ws 0 [] ≡ name) × NumberAt ws 1 limit v)
+
+-- a box, then the address that the search begins at, then for how many finds there is room
+abbrev pub Searches : ℕ → List (List ℕ) → Point → Point → ℕ → ℕ → Type 0
+Searches n ws low high start room =
+    (ends from for : List (List ℕ))
+    × (ws ≡ ends ++ from ++ for)
+    × Ends n ends low high
+    × Given (codes "from") 0 (2 ^ 64 - 1) from start
+    × Given (codes "room") 1000 (2 ^ 32 - 1) for room
+
+-- the first words of the calls of the index that name no point
+abbrev pub plain_verbs : List (List ℕ)
+plain_verbs = codes "grant" ∷ codes "format" ∷ codes "open" ∷ codes "shut" ∷ []
+
+-- a charge, work records and room have 32 bits, an address 64
+abbrev pub CallsIndex : ℕ → List ℕ → List (List ℕ) → IndexCall → Type 0
+CallsIndex n verb ws (Grant charge) = (verb ≡ codes "grant") × (length ws ≡ 1) × NumberAt ws 0 (2 ^ 32 - 1) charge
+CallsIndex n verb ws Format = (verb ≡ codes "format") × (length ws ≡ 0)
+CallsIndex n verb ws (Open records) = (verb ≡ codes "open") × Given (codes "work") 64 (2 ^ 32 - 1) ws records
+CallsIndex n verb ws Shut = (verb ≡ codes "shut") × (length ws ≡ 0)
+CallsIndex n verb ws (Lodge x) = (verb ≡ codes "lodge") × Written n ws x
+CallsIndex n verb ws (Withdraw x) = (verb ≡ codes "withdraw") × Written n ws x
+CallsIndex n verb ws (Tally x) = (verb ≡ codes "tally") × Written n ws x
+CallsIndex n verb ws (Search s) = (verb ≡ codes "search") × Searches n ws s.query.low s.query.high s.start s.room

@@ -1,7 +1,7 @@
 // Lines that call: a question to the order, an access to the store, or a call of the index.
-ghost use Rattle.std.specs.Prelude.{MatchOption, MatchResult};
+ghost use Rattle.std.specs.Prelude.{ℕ, ◌-◌, ◌^◌, MatchOption, MatchResult, codes};
 ghost use Rattle.script.specs.Words.{texts, IsOneOf};
-ghost use Rattle.script.specs.Calling.{access_verbs, Accesses};
+ghost use Rattle.script.specs.Calling.{access_verbs, Accesses, plain_verbs, Given, CallsIndex};
 
 use crate::parse::{parse_as, parse_box, parse_point, parse_question};
 use crate::question::Question;
@@ -75,21 +75,33 @@ fn parse_access(verb: &str, words: &[&str]) -> Result<Option<Access>, Reason>
     }
 }
 
-// `open`, or `open work RECORDS`.
-fn parse_open(words: &[&str]) -> Result<IndexCall, Reason> {
+// The work records behind `open`: none said, or `work RECORDS`.
+fn parse_records(words: &[&str]) -> Result<u32, Reason>
+    ensures {
+        MatchResult result
+            (Given (codes "work") 64 (2 ^ 32 - 1) (texts words.now))
+            (λ _. (r : ℕ) → ¬ Given (codes "work") 64 (2 ^ 32 - 1) (texts words.now) r)
+    }
+{
     match words {
-        [] => Ok(IndexCall::Open(WORK)),
-        ["work", records] => parse_as(records).map(IndexCall::Open),
+        [] => Ok(WORK),
+        ["work", records] => parse_as(records),
         [_, _] => Err(Reason::Command),
         _ => Err(Reason::Words),
     }
 }
 
 // The calls that name no point.
-fn parse_plain(verb: &str, words: &[&str]) -> Result<Option<IndexCall>, Reason> {
+fn parse_plain(verb: &str, words: &[&str]) -> Result<Option<IndexCall>, Reason>
+    ensures {
+        MatchResult result
+            (λ read. MatchOption read (¬ IsOneOf plain_verbs verb.now) (λ c. (n : ℕ) → CallsIndex n verb.now (texts words.now) c))
+            (λ _. IsOneOf plain_verbs verb.now × ((n : ℕ) (c : IndexCall) → ¬ CallsIndex n verb.now (texts words.now) c))
+    }
+{
     match (verb, words) {
         ("grant", [charge]) => Ok(Some(IndexCall::Grant(parse_as(charge)?))),
-        ("open", _) => parse_open(words).map(Some),
+        ("open", _) => Ok(Some(IndexCall::Open(parse_records(words)?))),
         ("format", []) => Ok(Some(IndexCall::Format)),
         ("shut", []) => Ok(Some(IndexCall::Shut)),
         ("grant" | "format" | "shut", _) => Err(Reason::Words),
