@@ -3,3 +3,4 @@ pub mod Rows
 pub mod Asked
 pub mod Verbs
 pub mod Called
+pub mod Searched

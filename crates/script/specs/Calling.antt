@@ -1,9 +1,13 @@
 -- Which words write which call. A call's first word says what is called.
 use Rattle.std.specs.Prelude.{◌≡◌, ℕ, ◌-◌, ◌^◌, ◌⊎◌, List, [], ◌∷◌, ◌++◌, length, codes, slice_index_or}
 use Rattle.orders.specs.declared.point.Point.{Point}
+use Rattle.orders.specs.declared.refusal.Refusal.TheVariants.{BoxEnds}
+use Rattle.orders.specs.Spaces.{Ordered}
 use Rattle.script.specs.Words.{NumberAt, Written, Ends}
 use Rattle.script.specs.declared.call.Access.{Access}
 use Rattle.script.specs.declared.call.Access.TheVariants.{Read, Write}
+use Rattle.script.specs.declared.trouble.Trouble.{Trouble}
+use Rattle.script.specs.declared.trouble.Trouble.TheVariants.{Refused, Unclear, Memory}
 use Rattle.script.specs.declared.call.IndexCall.{IndexCall}
 use Rattle.script.specs.declared.call.IndexCall.TheVariants.{Grant, Format, Open, Shut, Lodge, Withdraw, Tally, Search}
 
@@ -28,6 +32,16 @@ Searches n ws low high start room =
     × Ends n ends low high
     × Given (codes "from") 0 (2 ^ 64 - 1) from start
     × Given (codes "room") 1000 (2 ^ 32 - 1) for room
+
+-- the same words, but of a box that cannot be: a low end lies above its high end
+abbrev pub SearchCrossed : ℕ → List (List ℕ) → Type 0
+SearchCrossed n ws = (low high : Point) × (start room : ℕ) × Searches n ws low high start room × ¬ Ordered low.coords high.coords
+
+-- why they write no search: they write none, of no box either; or a low end lies above its high end; or memory was short
+abbrev pub NoSearch : ℕ → List (List ℕ) → Trouble → Type 0
+NoSearch n ws (Unclear r) = (low high : Point) (start room : ℕ) → ¬ Searches n ws low high start room
+NoSearch n ws (Refused f) = (f ≡ BoxEnds) × SearchCrossed n ws
+NoSearch n ws Memory = Unit {0}
 
 -- the first words of the calls of the index that name no point
 abbrev pub plain_verbs : List (List ℕ)

@@ -1,5 +1,5 @@
 -- What a row of words writes.
-use Rattle.std.specs.Prelude.{◌≡◌, ℕ, ◌+◌, ◌-◌, ◌^◌, ◌<◌, ◌⊎◌, List, [], ◌∷◌, map, length, take, drop, Some, None, slice_index, slice_index_or}
+use Rattle.std.specs.Prelude.{◌≡◌, ℕ, ◌+◌, ◌-◌, ◌^◌, ◌<◌, ◌⊎◌, List, [], ◌∷◌, ◌++◌, map, length, take, drop, Some, None, ◌≢◌, slice_index, slice_index_or}
 use Rattle.std.specs.Borrow.{Bor}
 use Rattle.orders.specs.declared.point.Point.{Point}
 use Rattle.orders.specs.declared.refusal.Refusal.TheVariants.{BoxEnds}
@@ -21,6 +21,17 @@ IsOneOf (v ∷ vs) w = (w ≡ v) ⊎ IsOneOf vs w
 -- the word in the place i writes the number, which is no greater than the limit
 abbrev pub NumberAt : List (List ℕ) → ℕ → ℕ → ℕ → Type 0
 NumberAt ws i limit v = NumberIs (slice_index_or ws i []) limit (Some v)
+
+-- the words end in the name and its number, behind the words `before`; or in the name and a word they do not end, `before` is all of them, and the
+-- number is the usual one
+abbrev pub EndsIn : List ℕ → ℕ → ℕ → List (List ℕ) → List (List ℕ) → ℕ → Type 0
+EndsIn name usual limit ws before v =
+    ((w : List ℕ) × (ws ≡ before ++ name ∷ w ∷ []) × NumberIs w limit (Some v))
+    ⊎ ((before ≡ ws) × (v ≡ usual) × ((bs : List (List ℕ)) (w : List ℕ) → ws ≢ bs ++ name ∷ w ∷ []))
+
+-- the words end in the name and a word that writes no number
+abbrev pub EndsWrongly : List ℕ → ℕ → List (List ℕ) → Type 0
+EndsWrongly name limit ws = (bs : List (List ℕ)) × (w : List ℕ) × (ws ≡ bs ++ name ∷ w ∷ []) × NumberIs w limit None
 
 -- each word writes the number in its place, of 64 bits at most
 abbrev pub Numbers : List (List ℕ) → List ℕ → Type 0

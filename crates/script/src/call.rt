@@ -1,9 +1,9 @@
 // Lines that call: a question to the order, an access to the store, or a call of the index.
 ghost use Rattle.std.specs.Prelude.{ℕ, ◌-◌, ◌^◌, MatchOption, MatchResult, codes};
-ghost use Rattle.script.specs.Words.{texts, IsOneOf};
-ghost use Rattle.script.specs.Calling.{access_verbs, Accesses, plain_verbs, Given, CallsIndex};
+ghost use Rattle.script.specs.Words.{texts, IsOneOf, EndsIn, EndsWrongly};
+ghost use Rattle.script.specs.Calling.{access_verbs, Accesses, plain_verbs, Given, Searches, NoSearch, CallsIndex};
 
-use crate::parse::{parse_as, parse_box, parse_point, parse_question};
+use crate::parse::{parse_as, parse_box, parse_number, parse_point, parse_question};
 use crate::question::Question;
 use crate::reason::Reason;
 use crate::trouble::Trouble;
@@ -109,20 +109,44 @@ fn parse_plain(verb: &str, words: &[&str]) -> Result<Option<IndexCall>, Reason>
     }
 }
 
-// The words before a trailing name and its value, and that value; all words and none where the name is not there.
-fn trailing<'w, 'a>(words: &'w [&'a str], name: &str) -> (&'w [&'a str], Option<&'a str>) {
+// For how many finds there is room, and the words before `room FINDS`; the usual room, and all words, where they do not end so.
+fn parse_room<'w, 'a>(words: &'w [&'a str]) -> Result<(&'w [&'a str], u32), Reason>
+    ensures {
+        MatchResult result
+            (λ read. EndsIn (codes "room") 1000 (2 ^ 32 - 1) (texts words.now) (texts read.0.now) read.1)
+            (λ _. EndsWrongly (codes "room") (2 ^ 32 - 1) (texts words.now))
+    }
+{
     match words {
-        [before @ .., key, value] if *key == name => (before, Some(value)),
-        _ => (words, None),
+        [before @ .., "room", finds] => Ok((before, parse_as(finds)?)),
+        _ => Ok((words, ROOM)),
+    }
+}
+
+// The address that a search begins at, and the words before `from ADDRESS`; 0, and all words, where they do not end so.
+fn parse_start<'w, 'a>(words: &'w [&'a str]) -> Result<(&'w [&'a str], u64), Reason>
+    ensures {
+        MatchResult result
+            (λ read. EndsIn (codes "from") 0 (2 ^ 64 - 1) (texts words.now) (texts read.0.now) read.1)
+            (λ _. EndsWrongly (codes "from") (2 ^ 64 - 1) (texts words.now))
+    }
+{
+    match words {
+        [before @ .., "from", address] => Ok((before, parse_number(address, u64::MAX)?)),
+        _ => Ok((words, 0)),
     }
 }
 
 // `BOX`, then `from ADDRESS` or not, then `room FINDS` or not.
-fn parse_search(heap: Global, words: &[&str], n: u8) -> Result<Search, Trouble> {
-    let (words, room) = trailing(words, "room");
-    let (ends, start) = trailing(words, "from");
-    let room = room.map_or(Ok(ROOM), parse_as)?;
-    let start = start.map_or(Ok(0), parse_as)?;
+fn parse_search(heap: Global, words: &[&str], n: u8) -> Result<Search, Trouble>
+    ensures {
+        MatchResult result
+            (λ s. Searches n (texts words.now) s.query.low s.query.high s.start s.room)
+            (NoSearch n (texts words.now))
+    }
+{
+    let (words, room) = parse_room(words)?;
+    let (ends, start) = parse_start(words)?;
     let query = parse_box(heap, ends, n)?;
     Ok(Search { query, start, room })
 }
