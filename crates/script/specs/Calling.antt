@@ -3,7 +3,7 @@ use Rattle.std.specs.Prelude.{◌≡◌, ℕ, ◌-◌, ◌^◌, ◌⊎◌, List,
 use Rattle.orders.specs.declared.point.Point.{Point}
 use Rattle.orders.specs.declared.refusal.Refusal.TheVariants.{BoxEnds}
 use Rattle.orders.specs.Spaces.{Ordered}
-use Rattle.script.specs.Words.{NumberAt, Written, Ends}
+use Rattle.script.specs.Words.{IsOneOf, NumberAt, Written, Ends}
 use Rattle.script.specs.declared.call.Access.{Access}
 use Rattle.script.specs.declared.call.Access.TheVariants.{Read, Write}
 use Rattle.script.specs.declared.trouble.Trouble.{Trouble}
@@ -47,6 +47,10 @@ NoSearch n ws Memory = Unit {0}
 abbrev pub plain_verbs : List (List ℕ)
 plain_verbs = codes "grant" ∷ codes "format" ∷ codes "open" ∷ codes "shut" ∷ []
 
+-- the first words of all calls of the index
+abbrev pub index_verbs : List (List ℕ)
+index_verbs = codes "lodge" ∷ codes "withdraw" ∷ codes "tally" ∷ codes "search" ∷ plain_verbs
+
 -- a charge, work records and room have 32 bits, an address 64
 abbrev pub CallsIndex : ℕ → List ℕ → List (List ℕ) → IndexCall → Type 0
 CallsIndex n verb ws (Grant charge) = (verb ≡ codes "grant") × (length ws ≡ 1) × NumberAt ws 0 (2 ^ 32 - 1) charge
@@ -57,3 +61,11 @@ CallsIndex n verb ws (Lodge x) = (verb ≡ codes "lodge") × Written n ws x
 CallsIndex n verb ws (Withdraw x) = (verb ≡ codes "withdraw") × Written n ws x
 CallsIndex n verb ws (Tally x) = (verb ≡ codes "tally") × Written n ws x
 CallsIndex n verb ws (Search s) = (verb ≡ codes "search") × Searches n ws s.query.low s.query.high s.start s.room
+
+-- why the words write no call of the index, though the first word calls it: they write none, and no search of a box that cannot be; or they write such
+-- a search; or memory was short
+abbrev pub NoIndexCall : ℕ → List ℕ → List (List ℕ) → Trouble → Type 0
+NoIndexCall n verb ws (Unclear r) =
+    IsOneOf index_verbs verb × ((c : IndexCall) → ¬ CallsIndex n verb ws c) × (verb ≡ codes "search" → ¬ SearchCrossed n ws)
+NoIndexCall n verb ws (Refused f) = (f ≡ BoxEnds) × (verb ≡ codes "search") × SearchCrossed n ws
+NoIndexCall n verb ws Memory = Unit {0}

@@ -1,7 +1,7 @@
 // Lines that call: a question to the order, an access to the store, or a call of the index.
 ghost use Rattle.std.specs.Prelude.{ℕ, ◌-◌, ◌^◌, MatchOption, MatchResult, codes};
 ghost use Rattle.script.specs.Words.{texts, IsOneOf, EndsIn, EndsWrongly};
-ghost use Rattle.script.specs.Calling.{access_verbs, Accesses, plain_verbs, Given, Searches, NoSearch, CallsIndex};
+ghost use Rattle.script.specs.Calling.{access_verbs, Accesses, plain_verbs, index_verbs, Given, Searches, NoSearch, CallsIndex, NoIndexCall};
 
 use crate::parse::{parse_as, parse_box, parse_number, parse_point, parse_question};
 use crate::question::Question;
@@ -156,15 +156,21 @@ fn parse_index_call(
     verb: &str,
     words: &[&str],
     n: u8,
-) -> Result<Option<IndexCall>, Trouble> {
-    let call: fn(Point) -> IndexCall = match verb {
-        "lodge" => IndexCall::Lodge,
-        "withdraw" => IndexCall::Withdraw,
-        "tally" => IndexCall::Tally,
-        "search" => return Ok(Some(IndexCall::Search(parse_search(heap, words, n)?))),
+) -> Result<Option<IndexCall>, Trouble>
+    ensures {
+        MatchResult result
+            (λ read. MatchOption read (¬ IsOneOf index_verbs verb.now) (CallsIndex n verb.now (texts words.now)))
+            (NoIndexCall n verb.now (texts words.now))
+    }
+{
+    let call = match verb {
+        "lodge" => IndexCall::Lodge(parse_point(heap, words, n)?),
+        "withdraw" => IndexCall::Withdraw(parse_point(heap, words, n)?),
+        "tally" => IndexCall::Tally(parse_point(heap, words, n)?),
+        "search" => IndexCall::Search(parse_search(heap, words, n)?),
         _ => return Ok(parse_plain(verb, words)?),
     };
-    Ok(Some(call(parse_point(heap, words, n)?)))
+    Ok(Some(call))
 }
 
 // A call, in a space of n coordinates: its words without the first. None where the first word calls nothing.
