@@ -1,7 +1,7 @@
 -- The calls that words write.
 use Rattle.std.proofs.Common.{◌≡◌, ℕ, ◌-◌, ◌^◌, List, [], ◌∷◌, refl, inl, inr, codes}
 use Rattle.script.specs.Words.{IsOneOf, NoPoint}
-use Rattle.script.specs.Calling.{index_verbs, Given, SearchCrossed, NoSearch, CallsIndex, NoIndexCall}
+use Rattle.script.specs.Calling.{index_verbs, Given, NoSearch, CallsIndex, NoIndexCall}
 use Rattle.script.specs.declared.trouble.Trouble.{Trouble}
 use Rattle.script.specs.declared.trouble.Trouble.TheVariants.{Refused, Unclear, Memory}
 use Rattle.script.specs.declared.call.IndexCall.{IndexCall}

@@ -33,7 +33,7 @@ last_two ws name two named =
     let last : drop (k + 1) ws ≡ get_or ws (k + 1) past ∷ drop (k + 1 + 1) ws = drop_more ws (k + 1) past (omega arith) in
     let none : drop (k + 1 + 1) ws ≡ [] = drop_all (k + 1 + 1) ws (omega arith) in
     let halves : ws ≡ take k ws ++ get_or ws k past ∷ get_or ws (length ws - 1) past ∷ [] =
-        (let whole = take-append-drop k ws in let place = ap (λ (i : ℕ). get_or ws i past) next in cc) in
+    (let whole = take-append-drop k ws in let place = ap (λ (i : ℕ). get_or ws i past) next in cc) in
     ap texts halves
     ∙ map-append (λ (w : Bor (List ℕ)). w.now) (take k ws) (get_or ws k past ∷ get_or ws (length ws - 1) past ∷ [])
     ∙ ap (λ (w : List ℕ). texts (take k ws) ++ w ∷ (get_or ws (length ws - 1) past).now ∷ []) named

@@ -62,8 +62,8 @@ box_digits n ts low high i ends lt =
     elim (cases_lt i ends.0) [
       | inl less ↦ subst Digits (get_or-take ends.0 ts i [] less) (ends.2.1.1 i (omega (arith, ends.2.1.0))).0.1
       | inr past ↦
-        let at : get_or (drop ends.0 ts) (i - ends.0) [] ≡ get_or ts i [] = get_or-drop ends.0 ts (i - ends.0) [] ∙ ap (λ (j : ℕ). get_or ts j []) (omega arith) in
-        subst Digits at (ends.3.1.1 (i - ends.0) (omega (arith, ends.1, ends.3.1.0, length-drop ends.0 ts))).0.1
+          let at : get_or (drop ends.0 ts) (i - ends.0) [] ≡ get_or ts i [] = get_or-drop ends.0 ts (i - ends.0) [] ∙ ap (λ (j : ℕ). get_or ts j []) (omega arith) in
+          subst Digits at (ends.3.1.1 (i - ends.0) (omega (arith, ends.1, ends.3.1.0, length-drop ends.0 ts))).0.1
     ]
 
 -- so no box ends in a name and a word

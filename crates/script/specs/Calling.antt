@@ -4,6 +4,9 @@ use Rattle.orders.specs.declared.point.Point.{Point}
 use Rattle.orders.specs.declared.refusal.Refusal.TheVariants.{BoxEnds}
 use Rattle.orders.specs.Spaces.{Ordered}
 use Rattle.script.specs.Words.{IsOneOf, NumberAt, Written, Ends}
+use Rattle.script.specs.Grammar.{question_verbs, Crossed, Asks}
+use Rattle.script.specs.declared.call.Call.{Call}
+use Rattle.script.specs.declared.call.Call.TheVariants.{Ask, Access as ToStore, Index}
 use Rattle.script.specs.declared.call.Access.{Access}
 use Rattle.script.specs.declared.call.Access.TheVariants.{Read, Write}
 use Rattle.script.specs.declared.trouble.Trouble.{Trouble}
@@ -69,3 +72,23 @@ NoIndexCall n verb ws (Unclear r) =
     IsOneOf index_verbs verb × ((c : IndexCall) → ¬ CallsIndex n verb ws c) × (verb ≡ codes "search" → ¬ SearchCrossed n ws)
 NoIndexCall n verb ws (Refused f) = (f ≡ BoxEnds) × (verb ≡ codes "search") × SearchCrossed n ws
 NoIndexCall n verb ws Memory = Unit {0}
+
+-- the first words of all calls
+abbrev pub call_verbs : List (List ℕ)
+call_verbs = access_verbs ++ index_verbs ++ question_verbs
+
+-- the first word and the words behind it call, in a space of n coordinates
+abbrev pub Calls : ℕ → List ℕ → List (List ℕ) → Call → Type 0
+Calls n verb ws (Ask q) = Asks n verb ws q
+Calls n verb ws (ToStore a) = Accesses verb ws a
+Calls n verb ws (Index c) = CallsIndex n verb ws c
+
+-- they would call, but name a box that cannot be: a low end lies above its high end
+abbrev pub CrossedIn : ℕ → List ℕ → List (List ℕ) → Type 0
+CrossedIn n verb ws = ((verb ≡ codes "first") × Crossed n ws) ⊎ ((verb ≡ codes "search") × SearchCrossed n ws)
+
+-- why they do not call, though the first word does: they write no call, and none with a box that cannot be; or they write such a call; or memory was short
+abbrev pub NoCall : ℕ → List ℕ → List (List ℕ) → Trouble → Type 0
+NoCall n verb ws (Unclear r) = IsOneOf call_verbs verb × ((c : Call) → ¬ Calls n verb ws c) × ¬ CrossedIn n verb ws
+NoCall n verb ws (Refused f) = (f ≡ BoxEnds) × CrossedIn n verb ws
+NoCall n verb ws Memory = Unit {0}

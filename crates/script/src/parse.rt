@@ -26,11 +26,9 @@ pub fn parse_number(word: &str, limit: u64) -> Result<u64, Reason>
 pub(crate) fn parse_as<T: TryFrom<u64>>(word: &str) -> Result<T, Reason>
 where
     T::Error: Drop,
-    ensures {
-        MatchResult result
-            (λ v. (k : ℕ) × NumberIs word.now (2 ^ 64 - 1) (Some k) × T.try_from_gives k (Ok v))
-            (λ e. (e ≡ is_number) × (NumberIs word.now (2 ^ 64 - 1) None ⊎ ((k : ℕ) × (x : T.Error) × NumberIs word.now (2 ^ 64 - 1) (Some k) × T.try_from_gives k (Err x))))
-    }
+    ensures { MatchResult result
+        (λ v. (k : ℕ) × NumberIs word.now (2 ^ 64 - 1) (Some k) × T.try_from_gives k (Ok v))
+        (λ e. (e ≡ is_number) × (NumberIs word.now (2 ^ 64 - 1) None ⊎ ((k : ℕ) × (x : T.Error) × NumberIs word.now (2 ^ 64 - 1) (Some k) × T.try_from_gives k (Err x)))) }
 {
     T::try_from(parse_number(word, u64::MAX)?).map_err(|_| Reason::Number)
 }

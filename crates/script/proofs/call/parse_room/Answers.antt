@@ -8,9 +8,13 @@ use Rattle.script.proofs.call.parse_room.Goals.{in_default-via-then-words-lt2, i
 
 pub returns-in_default : goal.returns-in_default
 returns-in_default c =
-    inr (refl, refl, λ bs v is.
-      let last = ends_in c.args.words.now bs _ v is in
-      elim c.in_default.branch [ in_default-via-then-words-lt2 w ↦ grind arith | in_default-via-else-words-lt2+in_default w ↦ search rules ])
+    inr (
+      refl,
+      refl,
+      λ bs v is.
+          let last = ends_in c.args.words.now bs _ v is in
+          elim c.in_default.branch [ in_default-via-then-words-lt2 w ↦ grind arith | in_default-via-else-words-lt2+in_default w ↦ search rules ],
+    )
 
 pub returns-in_err-parse_as-in-room : goal.returns-in_err-parse_as-in-room
 returns-in_err-parse_as-in-room c =
