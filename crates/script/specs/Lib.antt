@@ -3,3 +3,4 @@ pub mod Questions
 pub mod Words
 pub mod Grammar
 pub mod Calling
+pub mod Setting

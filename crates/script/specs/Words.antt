@@ -33,15 +33,19 @@ EndsIn name usual limit ws before v =
 abbrev pub EndsWrongly : List ℕ → ℕ → List (List ℕ) → Type 0
 EndsWrongly name limit ws = (bs : List (List ℕ)) × (w : List ℕ) × (ws ≡ bs ++ name ∷ w ∷ []) × NumberIs w limit None
 
--- each word writes the number in its place, of 64 bits at most
-abbrev pub Numbers : List (List ℕ) → List ℕ → Type 0
-Numbers ws vs = (length vs ≡ length ws) × ((i : ℕ) → i < length vs → NumberIs (slice_index_or ws i []) (2 ^ 64 - 1) (Some (slice_index vs i)))
+-- each word writes the number in its place, which is no greater than the limit
+abbrev pub NumbersTo : ℕ → List (List ℕ) → List ℕ → Type 0
+NumbersTo limit ws vs = (length vs ≡ length ws) × ((i : ℕ) → i < length vs → NumberAt ws i limit (slice_index vs i))
 
--- why the words write no row of numbers: one of them writes none; or memory was short
-abbrev pub NoNumbers : List (List ℕ) → Trouble → Type 0
-NoNumbers ws (Unclear r) = (r ≡ Number) × ((i : ℕ) × (i < length ws) × NumberIs (slice_index_or ws i []) (2 ^ 64 - 1) None)
-NoNumbers ws (Refused f) = ⊥
-NoNumbers ws Memory = Unit {0}
+-- why the words write no row of such numbers: one of them writes none; or memory was short
+abbrev pub NoNumbersTo : ℕ → List (List ℕ) → Trouble → Type 0
+NoNumbersTo limit ws (Unclear r) = (r ≡ Number) × ((i : ℕ) × (i < length ws) × NumberIs (slice_index_or ws i []) limit None)
+NoNumbersTo limit ws (Refused f) = ⊥
+NoNumbersTo limit ws Memory = Unit {0}
+
+-- the same of 64 bits
+abbrev pub Numbers : List (List ℕ) → List ℕ → Type 0
+Numbers ws vs = NumbersTo (2 ^ 64 - 1) ws vs
 
 -- the words write the point, in a space of n coordinates
 abbrev pub Written : ℕ → List (List ℕ) → Point → Type 0

@@ -3,7 +3,7 @@
 ghost use Rattle.std.specs.Prelude.{◌≡◌, ℕ, ◌-◌, ◌^◌, ◌⊎◌, Some, None, MatchResult};
 ghost use Rattle.script.specs.Grammar.{QuestionIs, FirstIs};
 ghost use Rattle.script.specs.Numbers.{NumberIs};
-ghost use Rattle.script.specs.Words.{texts, Numbers, NoNumbers, Written, NoPoint, Ends, NoBox};
+ghost use Rattle.script.specs.Words.{texts, Numbers, NoNumbersTo, Written, NoPoint, Ends, NoBox};
 ghost use Rattle.script.specs.declared.reason.Reason.TheVariants.{Number as is_number};
 
 use crate::number::number;
@@ -34,7 +34,7 @@ where
 }
 
 fn parse_numbers(heap: Global, words: &[&str]) -> Result<Vec<u64>, Trouble>
-    ensures { MatchResult result (λ v. Numbers (texts words.now) v.items) (NoNumbers (texts words.now)) }
+    ensures { MatchResult result (λ v. Numbers (texts words.now) v.items) (NoNumbersTo (2 ^ 64 - 1) (texts words.now)) }
 {
     let mut numbers = Vec::new(heap);
     for word in words {
