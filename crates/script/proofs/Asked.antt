@@ -28,7 +28,7 @@ module _ (ws : List (Bor (List ℕ))) where
         k,
         omega (arith, len),
         text_at ws k (omega arith) ∙ from,
-        number_at ws (k + 1) (Some a) (omega arith) (subst (λ (i : ℕ). NumberIs (get_or ws i past).now M (Some a)) more number),
+        number_at M ws (k + 1) (Some a) (omega arith) (subst (λ (i : ℕ). NumberIs (get_or ws i past).now M (Some a)) more number),
         subst (λ (ts : List (List ℕ)). Ends n ts low high) box_words ends,
       )
 
@@ -36,7 +36,7 @@ module _ (ws : List (Bor (List ℕ))) where
   first_unnumbered n two never low high a w =
       let k : w.0 + 1 ≡ length ws - 1 = omega (arith, len, w.1) in
       let at : NumberIs (get_or (texts ws) (length ws - 1) []) M (Some a) = subst (λ (i : ℕ). NumberIs (get_or (texts ws) i []) M (Some a)) k w.3 in
-      number_at ws (length ws - 1) None (omega arith) never at.0
+      number_at M ws (length ws - 1) None (omega arith) never at.0
 
   pub first_no_box : (n a : ℕ) (e : Trouble) → 2 ≤ length ws → (get_or ws (length ws - 2) past).now ≡ codes "from"
       → NumberIs (get_or ws (length ws - 1) past).now M (Some a) → NoBox n (texts (take (length ws - 2) ws)) e → FirstIs n (texts ws) (Err e)

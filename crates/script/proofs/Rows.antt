@@ -20,8 +20,9 @@ pub text_at : (ws : List (Bor (List ℕ))) (k : ℕ) → k < length ws → get_o
 text_at ws k lt = get_or-map (λ (v : Bor (List ℕ)). v.now) ws k past [] lt
 
 -- the word in the place k writes the number that its text writes, or none
-pub number_at : (ws : List (Bor (List ℕ))) (k : ℕ) (v : Option ℕ) → k < length ws → NumberIs (get_or ws k past).now M v → NumberIs (get_or (texts ws) k []) M v
-number_at ws k v lt = subst (λ (t : List ℕ). NumberIs t M v) (sym (text_at ws k lt))
+pub number_at : (limit : ℕ) (ws : List (Bor (List ℕ))) (k : ℕ) (v : Option ℕ) → k < length ws → NumberIs (get_or ws k past).now limit v
+    → NumberIs (get_or (texts ws) k []) limit v
+number_at limit ws k v lt = subst (λ (t : List ℕ). NumberIs t limit v) (sym (text_at ws k lt))
 
 -- the last two words, where the first of them is a name
 pub last_two : (ws : List (Bor (List ℕ))) (name : List ℕ) → 2 ≤ length ws → (get_or ws (length ws - 2) past).now ≡ name
@@ -48,9 +49,9 @@ ends_in ws bs v w is =
     )
 
 -- one number more
-pub one_more : (ts : List (List ℕ)) (vs us : List ℕ) (k v : ℕ) → length vs ≡ k → us ≡ vs ++ v ∷ [] → NumberIs (get_or ts k []) M (Some v) → ((i : ℕ) → i < k → NumberIs (get_or ts i []) M (Some (get_or vs i 0)))
-    → (i : ℕ) → i < k + 1 → NumberIs (get_or ts i []) M (Some (get_or us i 0))
-one_more ts vs us k v len us-is here before i lt =
+pub one_more : (limit : ℕ) (ts : List (List ℕ)) (vs us : List ℕ) (k v : ℕ) → length vs ≡ k → us ≡ vs ++ v ∷ [] → NumberIs (get_or ts k []) limit (Some v) → ((i : ℕ) → i < k → NumberIs (get_or ts i []) limit (Some (get_or vs i 0)))
+    → (i : ℕ) → i < k + 1 → NumberIs (get_or ts i []) limit (Some (get_or us i 0))
+one_more limit ts vs us k v len us-is here before i lt =
     rw us-is (elim (cases_lt i k) [
       | inl less ↦ let in-vs : i < length vs = omega arith in rw (get_or_append_left vs (v ∷ []) 0 i in-vs) (before i less)
       | inr past ↦ let e : i ≡ k = omega arith in rw e (rw (get_or_push vs v 0 k len) here)
