@@ -22,6 +22,12 @@ use Rattle.script.specs.declared.question.Answer.TheVariants.{Address, At}
 use Rattle.answers.specs.declared.answer.Answer.{Answer}
 use Rattle.answers.specs.declared.answer.Answer.TheVariants.{Ok, Count, Found, Asked, Page, Denied, Impossible, Unmade, Refused, Unclear}
 
+-- texts one after another
+abbrev pub joined : List (List ℕ) → List ℕ
+joined [] = []
+joined (a ∷ []) = a
+joined (a ∷ b ∷ rest) = a ++ joined (b ∷ rest)
+
 -- ---- a search
 
 -- numbers with commas between them
@@ -34,26 +40,26 @@ with_commas (c ∷ rest) = decimal c ++ flat_map after_comma rest
 
 -- the first n coordinates of a point, as (C0, C1, ..)
 abbrev pub point_text : ℕ → Point → List ℕ
-point_text n x = codes "(" ++ (with_commas (take n x.coords) ++ codes ")")
+point_text n x = joined (codes "(" ∷ with_commas (take n x.coords) ∷ codes ")" ∷ [])
 
 abbrev pub ending_text : Ending → List ℕ
 ending_text Done = codes "done"
 ending_text (More a) = codes "more at " ++ decimal a
-ending_text (Cut p a) = codes "cut at " ++ (decimal a ++ (codes " page " ++ decimal p))
+ending_text (Cut p a) = joined (codes "cut at " ∷ decimal a ∷ codes " page " ∷ decimal p ∷ [])
 
 -- how a search ended, how many pages it read and how many finds it made
 abbrev pub found_text : FoundRecord → List ℕ
-found_text r = ending_text r.ending ++ (codes ", " ++ (decimal r.reads ++ (codes " reads, " ++ (decimal r.count ++ codes " finds"))))
+found_text r = joined (ending_text r.ending ∷ codes ", " ∷ decimal r.reads ∷ codes " reads, " ∷ decimal r.count ∷ codes " finds" ∷ [])
 
 -- a find on a line of its own, four spaces in: address, point and count
 abbrev pub find_text : ℕ → Find → List ℕ
-find_text n x = codes "\n    " ++ (decimal x.address ++ (codes " " ++ (point_text n x.point ++ (codes " x" ++ decimal x.count))))
+find_text n x = joined (codes "\n    " ∷ decimal x.address ∷ codes " " ∷ point_text n x.point ∷ codes " x" ∷ decimal x.count ∷ [])
 
 -- ---- a refusal
 
 -- the values that go with it: page, level and the store's own fault, or page and rule
 abbrev pub access_text : Access → List ℕ
-access_text a = codes " page " ++ (decimal a.at.page ++ (codes " level " ++ (decimal a.at.level ++ (codes " " ++ fault_text a.fault))))
+access_text a = joined (codes " page " ∷ decimal a.at.page ∷ codes " level " ∷ decimal a.at.level ∷ codes " " ∷ fault_text a.fault ∷ [])
 
 abbrev pub values_text : Fault → List ℕ
 values_text Shut = []
@@ -63,7 +69,7 @@ values_text (Absent a) = access_text a
 values_text (Unread a) = access_text a
 values_text NoHeader = []
 values_text OtherOrder = []
-values_text (Unsound p r) = codes " page " ++ (decimal p ++ (codes " rule " ++ ((64 + letter r) ∷ [])))
+values_text (Unsound p r) = joined (codes " page " ∷ decimal p ∷ codes " rule " ∷ ((64 + letter r) ∷ []) ∷ [])
 values_text NoEvent = []
 values_text CountFull = []
 values_text HeightFull = []
@@ -72,7 +78,7 @@ values_text (Unwritten a) = access_text a
 
 -- its number, its values, and why
 abbrev pub refused_text : ℕ → List ℕ → List ℕ → List ℕ
-refused_text number values why = codes "refused " ++ (decimal number ++ (values ++ (codes ": " ++ why)))
+refused_text number values why = joined (codes "refused " ∷ decimal number ∷ values ∷ codes ": " ∷ why ∷ [])
 
 -- ---- an answer
 
