@@ -1,5 +1,5 @@
 // What a line is answered with.
-ghost use Rattle.std.specs.Prelude.{Some};
+ghost use Rattle.std.specs.Prelude.{◌≡◌, Some, MatchResult};
 ghost use Rattle.answers.specs.Texts.{text_of};
 
 pub use crate::text::Hex;
@@ -41,6 +41,7 @@ impl Answer {
     // The answer to what is done, or refused.
     pub fn done<E, F: FnOnce(E) -> Answer>(carried: Result<(), E>, refused: F) -> Answer
         requires { F.IsAlwaysCallable refused }
+        ensures { MatchResult carried (λ _. result ≡ Answer.Ok) (λ e. F.post refused e result) }
     {
         carried.map_or_else(refused, |()| Answer::Ok)
     }
