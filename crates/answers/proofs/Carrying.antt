@@ -1,5 +1,5 @@
 -- What was done is told.
-use Rattle.std.proofs.Common.{◌≡◌, ℕ, Result, Ok as is_ok, Err as is_err, rules}
+use Rattle.std.proofs.Common.{◌≡◌, ℕ, Result, Ok as is_ok, Err as is_err}
 use Rattle.std.specs.Result.{MatchResult}
 use Rattle.orders.specs.Orders.{Order}
 use Rattle.faults.specs.declared.fault.Fault.{Fault}

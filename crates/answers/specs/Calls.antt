@@ -1,5 +1,6 @@
 -- What a call does, and how the answer tells it.
-use Rattle.std.specs.Prelude.{◌≡◌, ℕ, min, length}
+use Rattle.std.specs.Prelude.{◌≡◌, ℕ, min, [], length, replicate, Ok as Done, Err}
+use Rattle.pages.specs.Image.{Image, Reads, Writes}
 use Rattle.orders.specs.Orders.{Order}
 use Rattle.searches.specs.Finds.{ending_of}
 use Rattle.index.specs.Model.{Call, Answer as IndexAnswer, State, refusal}
@@ -7,10 +8,12 @@ use Rattle.index.specs.Model.Call.{formats, opens, shuts, lodges, withdraws, tal
 use Rattle.index.specs.Model.Answer.{accepted, counted, found}
 use Rattle.index.specs.Opening.{Opening}
 use Rattle.index.specs.Steps.{Step}
+use Rattle.script.specs.declared.call.Access.{Access}
+use Rattle.script.specs.declared.call.Access.TheVariants.{Read, Write}
 use Rattle.script.specs.declared.call.IndexCall.{IndexCall}
 use Rattle.script.specs.declared.call.IndexCall.TheVariants.{Grant, Format, Open, Shut, Lodge, Withdraw, Tally, Search}
 use Rattle.answers.specs.declared.answer.Answer.{Answer}
-use Rattle.answers.specs.declared.answer.Answer.TheVariants.{Ok, Count, Found, Refused}
+use Rattle.answers.specs.declared.answer.Answer.TheVariants.{Ok, Count, Found, Page, Denied, Refused}
 
 -- the call of the index that a line asks for: an opening is lent 64 records at most, a search room for 10,240 finds
 abbrev pub call_of : IndexCall → Call
@@ -38,3 +41,11 @@ Carried o n s (Count k) u call = Does o s (counted k) u call
 Carried o n s (Found r finds m) u call = (m ≡ n) × (r.count ≡ length finds.items) × Does o s (found finds.items r.reads (ending_of r.ending)) u call
 Carried o n s (Refused f) u call = Does o s (refusal f) u call
 Carried o n s _ u call = ⊥
+
+-- An access to the store, from the meaning m to the meaning m', and its answer. A write fills the page; the lent page of a read is of no matter.
+abbrev pub Accessed : Image → Access → Answer → Image → Type 0
+Accessed m (Read p) (Page bytes) m' = Reads m p [] (Done tt) m' bytes
+Accessed m (Read p) (Denied f) m' = Reads m p [] (Err f) m' []
+Accessed m (Write p byte) Ok m' = Writes m p (replicate 128 byte) (Done tt) m'
+Accessed m (Write p byte) (Denied f) m' = Writes m p (replicate 128 byte) (Err f) m'
+Accessed m access answer m' = ⊥

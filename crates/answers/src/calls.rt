@@ -3,7 +3,7 @@ ghost use Rattle.std.specs.Prelude.{◌≡◌, min, IfOk, OnErr};
 ghost use Rattle.index.specs.Model.{told};
 ghost use Rattle.index.specs.Model.Call.{opens};
 ghost use Rattle.index.specs.View.{view};
-ghost use Rattle.answers.specs.Calls.{call_of, Does, Carried};
+ghost use Rattle.answers.specs.Calls.{call_of, Does, Carried, Accessed};
 
 use crate::answer::Answer;
 use faults::fault::Fault;
@@ -93,7 +93,9 @@ pub fn call<S: PageStore, O: PointOrder>(
 }
 
 // Accesses a store.
-pub fn access<S: PageStore>(store: &mut S, access: Access) -> Answer {
+pub fn access<S: PageStore>(store: &mut S, access: Access) -> Answer
+    ensures { Accessed (S.meaning store.old) access result (S.meaning store.new) }
+{
     match access {
         Access::Read(page) => {
             let mut bytes = [0; 128];
