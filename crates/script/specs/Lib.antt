@@ -4,3 +4,4 @@ pub mod Words
 pub mod Grammar
 pub mod Calling
 pub mod Setting
+pub mod Reasons
