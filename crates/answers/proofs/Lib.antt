@@ -1,2 +1,3 @@
 pub mod Hexes
 pub mod Carrying
+pub mod Running

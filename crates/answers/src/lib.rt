@@ -3,4 +3,5 @@
 
 pub mod answer;
 pub mod calls;
+pub mod run;
 mod text;
