@@ -1,2 +1,4 @@
 pub mod Hexes
 pub mod Carrying
+pub mod Events
+pub mod Enough
