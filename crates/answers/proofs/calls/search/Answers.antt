@@ -1,6 +1,5 @@
-use Rattle.std.proofs.Common.{◌≡◌, List, min, length, take, drop, ap, ◌∙◌, refl, arith, rules}
+use Rattle.std.proofs.Common.{◌≡◌, min, length, drop, refl, arith, rules}
 use Rattle.std.proofs.lemmas.List.{take_at}
-use Rattle.searches.specs.declared.find.Find.{Find}
 use Rattle.answers.proofs.Enough.{step_searches}
 use Rattle.answers.proofs.calls.search.Goals as goal
 
@@ -10,8 +9,7 @@ returns-in-Ok-clause-done g c =
     let memory = c.search.new.memory in
     let vec = c.in_ok-finds.finds in
     let whole = take_at memory (drop (length memory) vec.items) vec.len (omega arith) in
-    let kept = c.truncate.ensures.items ∙ ap (λ (xs : List Find). take c.in-Ok.found.count xs) whole in
-    (refl, search rules, (step_searches _ _ _ _ _ _ _ _ _ lent (rw kept c.in-Ok.ensures.step), tt))
+    (refl, search rules, (step_searches _ _ _ _ _ _ _ _ _ lent (rw (c.truncate.ensures.items, whole) c.in-Ok.ensures.step), tt))
 
 pub returns-in-Err-clause-done : goal.returns-in-Err-clause-done
 returns-in-Err-clause-done g c =
