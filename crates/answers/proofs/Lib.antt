@@ -1,3 +1,5 @@
 pub mod Hexes
 pub mod Carrying
 pub mod Running
+pub mod Events
+pub mod Enough

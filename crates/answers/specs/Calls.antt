@@ -1,5 +1,5 @@
 -- What a call does, and how the answer tells it.
-use Rattle.std.specs.Prelude.{◌≡◌, ℕ, min, [], length, replicate, Ok as Done, Err}
+use Rattle.std.specs.Prelude.{◌≡◌, ℕ, [], length, replicate, Ok as Done, Err}
 use Rattle.pages.specs.Image.{Image, Reads, Writes}
 use Rattle.orders.specs.Orders.{Order}
 use Rattle.searches.specs.Finds.{ending_of}
@@ -15,16 +15,16 @@ use Rattle.script.specs.declared.call.IndexCall.TheVariants.{Grant, Format, Open
 use Rattle.answers.specs.declared.answer.Answer.{Answer}
 use Rattle.answers.specs.declared.answer.Answer.TheVariants.{Ok, Count, Found, Page, Denied, Refused}
 
--- the call of the index that a line asks for: an opening is lent 64 records at most, a search room for 10,240 finds
+-- the call of the index that a line asks for
 abbrev pub call_of : IndexCall → Call
 call_of (Grant charge) = grants charge
 call_of Format = formats
-call_of (Open records) = opens (min records 64)
+call_of (Open records) = opens records
 call_of Shut = shuts
 call_of (Lodge x) = lodges x.coords
 call_of (Withdraw x) = withdraws x.coords
 call_of (Tally x) = tallies x.coords
-call_of (Search asked) = searches asked.query.low.coords asked.query.high.coords asked.start (min asked.room 10240)
+call_of (Search asked) = searches asked.query.low.coords asked.query.high.coords asked.start asked.room
 
 -- an opening is also told by the bytes of the memory, whoever wrote them
 abbrev pub Opens : Order → State → IndexAnswer → State → Call → Type 0

@@ -1,5 +1,5 @@
 // The calls of the index, and accesses to its store, with their answers.
-ghost use Rattle.std.specs.Prelude.{◌≡◌, min, IfOk, OnErr};
+ghost use Rattle.std.specs.Prelude.{◌≡◌, IfOk, OnErr};
 ghost use Rattle.index.specs.Model.{told};
 ghost use Rattle.index.specs.Model.Call.{opens};
 ghost use Rattle.index.specs.View.{view};
@@ -25,7 +25,7 @@ fn open<S: PageStore, O: PointOrder>(
     index: &mut Index<S, O>,
     records: u32,
 ) -> Result<Result<(), Fault>, AllocError>
-    ensures done { IfOk result (λ r. Does (O.PointOrder.meaning index.old.order) (view S.PageStore.meaning index.old) (told r) (view S.PageStore.meaning index.new) (opens (min records 64))) }
+    ensures done { IfOk result (λ r. Does (O.PointOrder.meaning index.old.order) (view S.PageStore.meaning index.old) (told r) (view S.PageStore.meaning index.new) (opens records)) }
     ensures short { OnErr result (index.new ≡ index.old) }
     ensures order { index.new.order ≡ index.old.order }
 {
