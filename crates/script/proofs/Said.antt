@@ -1,8 +1,8 @@
 -- What a line's words say.
-use Rattle.std.proofs.Common.{◌≡◌, ℕ, List, ◌∷◌, inl, inr}
-use Rattle.script.specs.Words.{IsOneOf, texts}
+use Rattle.std.proofs.Common.{ℕ, List, ◌∷◌, inl, inr}
+use Rattle.script.specs.Words.{IsOneOf}
 use Rattle.script.specs.Setting.{setup_verbs, SetsUp}
-use Rattle.script.specs.Calling.{Calls, NoCall}
+use Rattle.script.specs.Calling.{NoCall}
 use Rattle.script.specs.Lines.{Says, SaysNothing}
 use Rattle.script.specs.declared.setup.Setup.{Setup}
 use Rattle.script.specs.declared.setup.Setup.TheVariants.{Order, Memory, Image, Slot, SlotImage, Turned, Skip, Dump, Save}
