@@ -4,3 +4,4 @@ pub mod Asked
 pub mod Verbs
 pub mod Called
 pub mod Searched
+pub mod Said

@@ -1,6 +1,6 @@
 -- Rows of words and the numbers that they write.
 use Rattle.std.proofs.Common.{◌≡◌, ℕ, ◌+◌, ◌-◌, ◌/◌, ◌%◌, ◌^◌, ◌<◌, ◌≤◌, List, [], ◌∷◌, ◌++◌, length, get_or, take, drop, Some, Option, sym, ap, ◌∙◌, subst, inl, inr, arith, Bor}
-use Rattle.std.proofs.lemmas.List.{get_or-map, length-map, take-map, drop-map, map-append, drop_more, drop_all, take-append-drop, length-append, get_or_at, get_or_append_left, get_or_push}
+use Rattle.std.proofs.lemmas.List.{get_or-map, length-map, take-map, drop-map, map-append, drop_more, drop_all, take_rest, take-append-drop, length-append, get_or_at, get_or_append_left, get_or_push}
 use Rattle.std.proofs.lemmas.Bool.{cases_lt}
 use Rattle.orders.specs.declared.point.Point.{Point}
 use Rattle.script.specs.Numbers.{NumberIs}
@@ -18,6 +18,10 @@ past = record { ref_ptr = (0, 0); now = [] }
 -- the bytes of the word in the place k
 pub text_at : (ws : List (Bor (List ℕ))) (k : ℕ) → k < length ws → get_or (texts ws) k [] ≡ (get_or ws k past).now
 text_at ws k lt = get_or-map (λ (v : Bor (List ℕ)). v.now) ws k past [] lt
+
+pub first_word : (ws : List (Bor (List ℕ))) → 1 ≤ length ws → texts ws ≡ (get_or ws 0 past).now ∷ texts (take (length ws - 1) (drop 1 ws))
+first_word [] one = absurd (omega (arith, one))
+first_word (w ∷ ws) one = ap (λ (rest : List (Bor (List ℕ))). w.now ∷ texts rest) (sym (take_rest (w ∷ ws) 1))
 
 -- the word in the place k writes the number that its text writes, or none
 pub number_at : (limit : ℕ) (ws : List (Bor (List ℕ))) (k : ℕ) (v : Option ℕ) → k < length ws → NumberIs (get_or ws k past).now limit v

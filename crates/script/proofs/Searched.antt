@@ -1,10 +1,10 @@
 -- The searches that words write.
-use Rattle.std.proofs.Common.{◌≡◌, ℕ, ◌+◌, ◌-◌, ◌*◌, ◌^◌, ◌<◌, ◌≤◌, ◌⊎◌, List, [], ◌∷◌, ◌++◌, length, get_or, take, drop, Some, None, refl, sym, ap, ◌∙◌, subst, inl, inr, arith, codes, lit<}
+use Rattle.std.proofs.Common.{◌≡◌, ℕ, ◌-◌, ◌^◌, ◌<◌, List, [], ◌∷◌, ◌++◌, length, get_or, take, drop, Some, refl, sym, ap, ◌∙◌, subst, inl, inr, arith, codes, lit<}
 use Rattle.std.proofs.lemmas.List.{append-nil, append_assoc, same_from_push, nil_from_length, length-append, length-take-le, length-drop, get_or_at, get_or-take, get_or-drop}
 use Rattle.std.proofs.lemmas.Bool.{cases_lt}
 use Rattle.orders.specs.declared.point.Point.{Point}
 use Rattle.script.specs.Numbers.{Digits, NumberIs}
-use Rattle.script.specs.Words.{Written, Ends, NoBox, EndsIn, EndsWrongly}
+use Rattle.script.specs.Words.{Ends, NoBox, EndsIn, EndsWrongly}
 use Rattle.script.specs.Calling.{Given, Searches, NoSearch}
 use Rattle.script.specs.declared.trouble.Trouble.{Trouble}
 use Rattle.script.specs.declared.trouble.Trouble.TheVariants.{Refused, Unclear, Memory}

@@ -5,3 +5,4 @@ pub mod Grammar
 pub mod Calling
 pub mod Setting
 pub mod Reasons
+pub mod Lines

@@ -1,6 +1,7 @@
 -- What a row of words writes.
-use Rattle.std.specs.Prelude.{◌≡◌, ℕ, ◌+◌, ◌-◌, ◌^◌, ◌<◌, ◌⊎◌, List, [], ◌∷◌, ◌++◌, map, length, take, drop, Some, None, ◌≢◌, slice_index, slice_index_or}
+use Rattle.std.specs.Prelude.{◌≡◌, ℕ, ◌+◌, ◌-◌, ◌^◌, ◌<◌, ◌⊎◌, List, [], ◌∷◌, ◌++◌, map, filter, length, nat_lt, ◌==◌, take, drop, Some, None, ◌≢◌, slice_index, slice_index_or}
 use Rattle.std.specs.Borrow.{Bor}
+use Rattle.std.specs.List.{slice_split}
 use Rattle.orders.specs.declared.point.Point.{Point}
 use Rattle.orders.specs.declared.refusal.Refusal.TheVariants.{BoxEnds}
 use Rattle.orders.specs.Spaces.{Ordered}
@@ -8,6 +9,10 @@ use Rattle.script.specs.Numbers.{NumberIs, PointIs}
 use Rattle.script.specs.declared.reason.Reason.TheVariants.{Number}
 use Rattle.script.specs.declared.trouble.Trouble.{Trouble}
 use Rattle.script.specs.declared.trouble.Trouble.TheVariants.{Refused, Unclear, Memory}
+
+-- the words of a line: the pieces between its spaces, without the empty ones
+abbrev pub words_of : List ℕ → List (List ℕ)
+words_of line = filter (λ piece. nat_lt 0 (length piece)) (slice_split (λ b. b == 32) line)
 
 -- the bytes of each word
 abbrev pub texts : List (Bor (List ℕ)) → List (List ℕ)

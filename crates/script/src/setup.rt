@@ -35,11 +35,9 @@ pub enum Setup<'a> {
 }
 
 fn parse_order<'a>(words: &[&'a str]) -> Result<Setup<'a>, Reason>
-    ensures {
-        MatchResult result
-            (SetsUp (codes "order") (texts words.now))
-            (λ _. (s : Setup) → ¬ SetsUp (codes "order") (texts words.now) s)
-    }
+    ensures { MatchResult result
+        (SetsUp (codes "order") (texts words.now))
+        (λ _. (s : Setup) → ¬ SetsUp (codes "order") (texts words.now) s) }
 {
     let [kind, n, p] = words else {
         return Err(Reason::Words);
@@ -54,11 +52,9 @@ fn parse_order<'a>(words: &[&'a str]) -> Result<Setup<'a>, Reason>
 
 // What every byte of a memory holds behind `erased`: 255 alone.
 fn parse_erased(word: &str) -> Result<u8, Reason>
-    ensures {
-        MatchResult result
-            (λ byte. NumberIs word.now (2 ^ 8 - 1) (Some byte) × (byte ≡ 255))
-            (λ _. ¬ NumberIs word.now (2 ^ 8 - 1) (Some 255))
-    }
+    ensures { MatchResult result
+        (λ byte. NumberIs word.now (2 ^ 8 - 1) (Some byte) × (byte ≡ 255))
+        (λ _. ¬ NumberIs word.now (2 ^ 8 - 1) (Some 255)) }
 {
     match parse_as(word)? {
         255 => Ok(255),
@@ -67,11 +63,9 @@ fn parse_erased(word: &str) -> Result<u8, Reason>
 }
 
 fn parse_store<'a>(words: &[&'a str]) -> Result<Setup<'a>, Reason>
-    ensures {
-        MatchResult result
-            (SetsUp (codes "store") (texts words.now))
-            (λ _. (s : Setup) → ¬ SetsUp (codes "store") (texts words.now) s)
-    }
+    ensures { MatchResult result
+        (SetsUp (codes "store") (texts words.now))
+        (λ _. (s : Setup) → ¬ SetsUp (codes "store") (texts words.now) s) }
 {
     match words {
         ["memory", pages] => Ok(Setup::Memory(parse_as(pages)?, 0)),
@@ -89,11 +83,9 @@ fn parse_store<'a>(words: &[&'a str]) -> Result<Setup<'a>, Reason>
 
 // Beside `parse_numbers`, whose clauses are those of one type: over both types they would speak of `TryFrom`.
 fn parse_pages(heap: Global, words: &[&str]) -> Result<Vec<u16>, Trouble>
-    ensures {
-        MatchResult result
-            (λ v. NumbersTo (2 ^ 16 - 1) (texts words.now) v.items)
-            (NoNumbersTo (2 ^ 16 - 1) (texts words.now))
-    }
+    ensures { MatchResult result
+        (λ v. NumbersTo (2 ^ 16 - 1) (texts words.now) v.items)
+        (NoNumbersTo (2 ^ 16 - 1) (texts words.now)) }
 {
     let mut pages = Vec::new(heap);
     for word in words {
@@ -104,11 +96,9 @@ fn parse_pages(heap: Global, words: &[&str]) -> Result<Vec<u16>, Trouble>
 }
 
 fn parse_layer<'a>(heap: Global, words: &[&'a str]) -> Result<Setup<'a>, Trouble>
-    ensures {
-        MatchResult result
-            (SetsUp (codes "layer") (texts words.now))
-            (NoSetup (codes "layer") (texts words.now))
-    }
+    ensures { MatchResult result
+        (SetsUp (codes "layer") (texts words.now))
+        (NoSetup (codes "layer") (texts words.now)) }
 {
     match words {
         ["turned"] => Ok(Setup::Turned),
@@ -124,11 +114,9 @@ pub fn parse_setup<'a>(
     verb: &str,
     words: &[&'a str],
 ) -> Result<Option<Setup<'a>>, Trouble>
-    ensures {
-        MatchResult result
-            (λ read. MatchOption read (¬ IsOneOf setup_verbs verb.now) (SetsUp verb.now (texts words.now)))
-            (NoSetup verb.now (texts words.now))
-    }
+    ensures { MatchResult result
+        (λ read. MatchOption read (¬ IsOneOf setup_verbs verb.now) (SetsUp verb.now (texts words.now)))
+        (NoSetup verb.now (texts words.now)) }
 {
     match (verb, words) {
         ("order", _) => Ok(Some(parse_order(words)?)),
