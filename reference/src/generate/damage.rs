@@ -31,6 +31,9 @@ impl Damage<'_> {
         if self.tree.pages.is_empty() {
             return self.header();
         }
+        if self.pages.len() == MOST as usize && self.random.percent(40) {
+            return self.rule_a();
+        }
         match self.random.weighted(&[16, 18, 5, 12, 20, 24, 3, 2]) {
             0 => self.header(),
             1 => self.rule_a(),

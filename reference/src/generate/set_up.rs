@@ -320,7 +320,7 @@ fn grown(random: &mut Random, order: &Order, last: u16, tall: bool) -> (Tree, Op
 /// Sometimes the memory is made smaller, so that about six pages are left free.
 fn tightened(random: &mut Random, tree: &mut Tree, below: u16, last: u16, layers: &[LayerLine]) -> (u16, u16) {
     let less = 1 + tree.pages.len() as u16 + *random.pick(&[4, 5, 6, 6, 7, 8, 12]);
-    if tree.pages.is_empty() || less >= last || random.percent(50) {
+    if tree.pages.is_empty() || less >= last || below > MOST || random.percent(50) {
         return (below, last);
     }
     let below_less = below - (last - less);
