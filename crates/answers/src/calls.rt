@@ -1,5 +1,12 @@
 // The calls of the index, and accesses to its store, with their answers.
+ghost use Rattle.std.specs.Prelude.{◌≡◌, min, IfOk, OnErr};
+ghost use Rattle.index.specs.Model.{told};
+ghost use Rattle.index.specs.Model.Call.{opens};
+ghost use Rattle.index.specs.View.{view};
+ghost use Rattle.answers.specs.Calls.{call_of, Does, Carried, Accessed};
+
 use crate::answer::Answer;
+use faults::fault::Fault;
 use index::index::Index;
 use layout::visit::Visit;
 use orders::order::PointOrder;
@@ -17,9 +24,13 @@ fn open<S: PageStore, O: PointOrder>(
     heap: Global,
     index: &mut Index<S, O>,
     records: u32,
-) -> Result<Answer, AllocError> {
+) -> Result<Result<(), Fault>, AllocError>
+    ensures done { IfOk result (λ r. Does (O.PointOrder.meaning index.old.order) (view S.PageStore.meaning index.old) (told r) (view S.PageStore.meaning index.new) (opens (min records 64))) }
+    ensures short { OnErr result (index.new ≡ index.old) }
+    ensures order { index.new.order ≡ index.old.order }
+{
     let mut work = vec![in heap; Visit::default(); records.min(MOST_WORK) as usize]?;
-    Ok(Answer::done(index.open(work.as_mut_slice()), Answer::Refused))
+    Ok(index.open(work.as_mut_slice()))
 }
 
 // A tree has no more events than this: ten in each of its 1,024 pages.
@@ -37,7 +48,11 @@ fn search<S: PageStore, O: PointOrder>(
     index: &mut Index<S, O>,
     asked: Search,
     n: u8,
-) -> Result<Answer, AllocError> {
+) -> Result<Answer, AllocError>
+    ensures done { IfOk result (λ answer. Carried (O.PointOrder.meaning index.old.order) n (view S.PageStore.meaning index.old) answer (view S.PageStore.meaning index.new) (call_of (IndexCall.Search asked))) }
+    ensures short { OnErr result (index.new ≡ index.old) }
+    ensures order { index.new.order ≡ index.old.order }
+{
     let mut finds = vec![in heap; NO_FIND; asked.room.min(MOST_FINDS) as usize]?;
     match index.search(&asked.query, asked.start, finds.as_mut_slice()) {
         Ok(found) => {
@@ -54,14 +69,18 @@ pub fn call<S: PageStore, O: PointOrder>(
     index: &mut Index<S, O>,
     call: IndexCall,
     n: u8,
-) -> Result<Answer, AllocError> {
+) -> Result<Answer, AllocError>
+    ensures done { IfOk result (λ answer. Carried (O.PointOrder.meaning index.old.order) n (view S.PageStore.meaning index.old) answer (view S.PageStore.meaning index.new) (call_of call)) }
+    ensures short { OnErr result (index.new ≡ index.old) }
+    ensures order { index.new.order ≡ index.old.order }
+{
     Ok(match call {
         IndexCall::Grant(charge) => {
             index.grant(charge);
             Answer::Ok
         }
         IndexCall::Format => Answer::done(index.format(), Answer::Refused),
-        IndexCall::Open(records) => open(heap, index, records)?,
+        IndexCall::Open(records) => Answer::done(open(heap, index, records)?, Answer::Refused),
         IndexCall::Shut => {
             index.shut();
             Answer::Ok
@@ -74,7 +93,9 @@ pub fn call<S: PageStore, O: PointOrder>(
 }
 
 // Accesses a store.
-pub fn access<S: PageStore>(store: &mut S, access: Access) -> Answer {
+pub fn access<S: PageStore>(store: &mut S, access: Access) -> Answer
+    ensures { Accessed (S.meaning store.old) access result (S.meaning store.new) }
+{
     match access {
         Access::Read(page) => {
             let mut bytes = [0; 128];

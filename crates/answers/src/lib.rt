@@ -3,3 +3,4 @@
 
 pub mod answer;
 pub mod calls;
+mod text;

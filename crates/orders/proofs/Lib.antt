@@ -1,3 +1,4 @@
 pub mod Blocks
 pub mod Quadrants
 pub mod Digits
+pub mod Bits

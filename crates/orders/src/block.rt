@@ -1,21 +1,23 @@
 // A block of addresses: all that begin with the same bits. Its points are a box.
-ghost use Rattle.std.specs.Prelude.{◌≡◌, ◌+◌, ◌-◌, ◌*◌, ◌^◌, ◌<◌, ◌≤◌, IsTrue, ◌↔◌};
+ghost use Rattle.std.specs.Prelude.{◌≡◌, ℕ, ◌+◌, ◌-◌, ◌*◌, ◌^◌, ◌<◌, ◌≤◌, IsTrue, ◌↔◌, slice_index};
 ghost use Rattle.orders.specs.Interleave.{point_at, lacking, Touches, Hit, Least};
 ghost use Rattle.orders.specs.Interleaved.{bits_of};
 
 use crate::rule::BitRule;
 use crate::space::QueryBox;
 
-// The addresses that begin with the bits c and have `left` bits more; the corner is the point of the bits c.
+// The addresses that begin with the bits c and have `left` bits more; the corner is the point of the bits c, whose coordinates lack so many bits.
 #[derive(Drop)]
 pub struct Block<'a, R: BitRule> {
     rule: &'a R,
     left: u32,
     c: u64,
     corner: [u16; 4],
+    lacks: [u32; 4],
     ghost inside: { left ≤ bits_of (R.space_of rule.now) },
     ghost short: { c < 2 ^ (bits_of (R.space_of rule.now) - left) },
     ghost at: { corner ≡ point_at (R.turn_of rule.now) (bits_of (R.space_of rule.now) - left) c },
+    ghost lack: { (j : ℕ) → j < 4 → slice_index lacks j ≡ lacking (bits_of (R.space_of rule.now)) (R.used_of rule.now) (bits_of (R.space_of rule.now) - left) j },
 }
 
 impl<'a, R: BitRule> Block<'a, R> {
@@ -30,6 +32,7 @@ impl<'a, R: BitRule> Block<'a, R> {
             left: rule.bits(),
             c: 0,
             corner: [0; 4],
+            lacks: rule.space().widths(),
         }
     }
 
@@ -44,22 +47,15 @@ impl<'a, R: BitRule> Block<'a, R> {
         let j = self.rule.turn(self.rule.bits() - self.left);
         let mut corner = self.corner;
         corner[j] = corner[j] * 2 + bit;
+        let mut lacks = self.lacks;
+        lacks[j] -= 1;
         Block {
             rule: self.rule,
             left: self.left - 1,
             c: self.c * 2 + bit as u64,
             corner,
+            lacks,
         }
-    }
-
-    // how many bits the coordinate j still lacks
-    fn lacks(&self, j: usize) -> u32
-        requires { j < 4 }
-        ensures count { let total = bits_of (R.space_of self.now.rule.now) in result ≡ lacking total (R.used_of self.now.rule.now) (total - self.now.left) j }
-        ensures fifteen { result ≤ 15 }
-    {
-        let total = self.rule.bits();
-        self.rule.used(j, total) - self.rule.used(j, total - self.left)
     }
 
     // whether the block has a point in common with the box
@@ -69,7 +65,7 @@ impl<'a, R: BitRule> Block<'a, R> {
         let low = b.low().coords;
         let high = b.high().coords;
         self.corner.iter().enumerate().all(|(j, c)| {
-            let k = self.lacks(j);
+            let k = self.lacks[j];
             (low[j] >> k) <= *c && *c <= (high[j] >> k)
         })
     }

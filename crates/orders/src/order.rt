@@ -94,16 +94,15 @@ impl<R: BitRule> PointOrder for Interleaved<R> {
         if !self.rule.space().contains(x) {
             return None;
         }
-        Some(address_by(&self.rule, self.rule.bits(), x.coords))
+        Some(address_by(&self.rule, x.coords))
     }
 
     fn point(&self, a: u64) -> Option<Point> {
-        let bits = self.rule.bits();
-        if (a >> bits) != 0 {
+        if (a >> self.rule.bits()) != 0 {
             return None;
         }
         Some(Point {
-            coords: point_by(&self.rule, bits, a),
+            coords: point_by(&self.rule, a),
         })
     }
 

@@ -2,6 +2,7 @@
 ghost use Rattle.std.specs.Prelude.{◌≡◌, ℕ, ◌+◌, ◌-◌, ◌*◌, ◌/◌, ◌%◌, ◌^◌, ◌<◌, ◌≤◌};
 ghost use Rattle.orders.specs.Interleave.{Schedule, point_at, address_of};
 ghost use Rattle.orders.specs.Interleaved.{bits_of};
+ghost use Rattle.orders.specs.Spaces.{InSpace};
 ghost use Rattle.orders.specs.declared.space.Space.{Space};
 
 use crate::space::Space;
@@ -38,39 +39,35 @@ pub trait BitRule {
         ensures dealt { t < bits_of (space_of self.now) → result ≡ turn_of self.now t }
         ensures four { result < 4 };
 
-    // how many of the first t bits of an address are the coordinate j's
-    fn used(&self, j: usize, t: u32) -> u32
-        ensures counted { j < 4 → t ≤ bits_of (space_of self.now) → result ≡ used_of self.now j t }
-        ensures fifteen { result ≤ 15 };
-
     ghost kinds: { (s : Self) → (1 ≤ kind_of s) × (kind_of s ≤ 255) };
 
     ghost deals: { (s : Self) → Schedule (space_of s).n (space_of s).p (turn_of s) (used_of s) };
 }
 
-pub(crate) fn address_by<R: BitRule>(s: &R, t: u32, x: [u16; 4]) -> u64
-    requires { t ≤ bits_of (R.space_of s.now) }
-    ensures value { result ≡ address_of (R.turn_of s.now) t x }
-    ensures below { result < 2 ^ t }
+// The address of a point of the space: its bits from the top down, each the next of its coordinate.
+pub(crate) fn address_by<R: BitRule>(s: &R, x: [u16; 4]) -> u64
+    requires { InSpace (R.space_of s.now).n (R.space_of s.now).p x }
+    ensures { result ≡ address_of (R.turn_of s.now) (bits_of (R.space_of s.now)) x }
 {
-    if t == 0 {
-        return 0;
+    let mut lacks = s.space().widths();
+    let mut a = 0;
+    for t in 0..s.bits() {
+        let j = s.turn(t);
+        lacks[j] -= 1;
+        a = a * 2 + ((x[j] >> lacks[j]) % 2) as u64;
     }
-    let j = s.turn(t - 1);
-    let mut half = x;
-    half[j] = x[j] / 2;
-    address_by(s, t - 1, half) * 2 + (x[j] % 2) as u64
+    a
 }
 
-pub(crate) fn point_by<R: BitRule>(s: &R, t: u32, a: u64) -> [u16; 4]
-    requires { t ≤ bits_of (R.space_of s.now) }
-    ensures { result ≡ point_at (R.turn_of s.now) t a }
+// The point of an address: its bits from the top down, each put to its coordinate.
+pub(crate) fn point_by<R: BitRule>(s: &R, a: u64) -> [u16; 4]
+    ensures { result ≡ point_at (R.turn_of s.now) (bits_of (R.space_of s.now)) a }
 {
-    if t == 0 {
-        return [0; 4];
+    let bits = s.bits();
+    let mut q = [0; 4];
+    for t in 0..bits {
+        let j = s.turn(t);
+        q[j] = q[j] * 2 + ((a >> (bits - 1 - t)) % 2) as u16;
     }
-    let mut q = point_by(s, t - 1, a / 2);
-    let j = s.turn(t - 1);
-    q[j] = q[j] * 2 + (a % 2) as u16;
     q
 }

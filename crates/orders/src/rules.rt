@@ -48,15 +48,6 @@ impl BitRule for ZRule {
         let n = self.space.n() as u32;
         (n - 1 - t % n) as usize
     }
-
-    fn used(&self, j: usize, t: u32) -> u32 {
-        let n = self.space.n() as u32;
-        if j < n as usize && t <= self.space.bits() {
-            (t + j as u32) / n
-        } else {
-            0
-        }
-    }
 }
 
 impl BitRule for RowRule {
@@ -87,15 +78,6 @@ impl BitRule for RowRule {
     fn turn(&self, t: u32) -> usize {
         let j = t / self.space.p() as u32;
         if j < 4 { j as usize } else { 0 }
-    }
-
-    fn used(&self, j: usize, t: u32) -> u32 {
-        let p = self.space.p() as u32;
-        if j < 4 {
-            p.min(t.saturating_sub(j as u32 * p))
-        } else {
-            0
-        }
     }
 }
 

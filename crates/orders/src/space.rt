@@ -60,6 +60,18 @@ impl Space {
         self.n as u32 * self.p as u32
     }
 
+    // how many bits each coordinate has
+    pub fn widths(self) -> [u32; 4]
+        ensures some { (j : ℕ) → j < self.n → slice_index result j ≡ self.p }
+        ensures none { (j : ℕ) → self.n ≤ j → slice_index result j ≡ 0 }
+    {
+        let mut widths = [0; 4];
+        for j in 0..self.n as usize {
+            widths[j] = self.p as u32;
+        }
+        widths
+    }
+
     pub fn contains(self, x: Point) -> bool
         ensures { IsTrue result ↔ (InSpace self.n self.p x.coords) }
     {

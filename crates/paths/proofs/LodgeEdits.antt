@@ -9,7 +9,7 @@ use Rattle.layout.specs.Edits as page
 use Rattle.layout.specs.declared.change.Full.{Full}
 use Rattle.layout.specs.Changes.{Puts, split_of, after_split}
 use Rattle.tree.specs.CopyPages.{swap, fill, fit_leaf, fit_inner}
-use Rattle.paths.specs.LodgePlaces.{pages_in, as_tree}
+use Rattle.paths.specs.LodgePlaces.{pages_in, as_tree, halves_of}
 
 tree_cond : {A : Type 0} (b : Bool) (x y : page.Split A) → as_tree (cond b x y) ≡ cond b (as_tree x) (as_tree y)
 tree_cond true x y = refl
@@ -29,16 +29,15 @@ put_same (e ∷ (d ∷ es)) a s =
     ap (λ (z : List Entry). cond (leb a e.key) z (e ∷ page.put_child (d ∷ es) a (split_of s))) (filled e.key (d ∷ es) s)
     ∙ ap (λ (z : List Entry). cond (leb a e.key) (fill e.key (d ∷ es) (pages_in s)) (e ∷ z)) (put_same (d ∷ es) a s)
 
-puts : (es mid : List Entry) (a : ℕ) (s : ChildPages) (b : Result (Unit {0}) Full) → length es ≤ 10 → Puts a s es b mid → mid ≡ swap es a (pages_in s)
+pub puts : (es mid : List Entry) (a : ℕ) (s : ChildPages) (b : Result (Unit {0}) Full) → length es ≤ 10 → Puts a s es b mid → mid ≡ swap es a (pages_in s)
 puts es mid a s (Ok u) n t = t ∙ put_same es a s
 puts es mid a s (Err f) n t = absurd (omega (arith, n, t.0))
 
-pub renewed : (es mid out : List Entry) (a : ℕ) (s : ChildPages) (b : Result (Unit {0}) Full) (r : Option (RightHalf EntryList)) → length es ≤ 10 → Puts a s es b mid → after_split out r ≡ page.fit_inner mid
-    → as_tree (after_split out r) ≡ fit_inner (swap es a (pages_in s))
-renewed es mid out a s b r n t e = ap as_tree e ∙ tree_inner mid ∙ ap fit_inner (puts es mid a s b n t)
+pub inner_split : (es out : List Entry) (r : Option (RightHalf EntryList)) → after_split out r ≡ page.fit_inner es → halves_of out r ≡ fit_inner es
+inner_split es out r e = ap as_tree e ∙ tree_inner es
 
 tree_leaf : (es : List Entry) → as_tree (page.fit_leaf es) ≡ fit_leaf es
 tree_leaf es = tree_cond (leb (length es) 10) (page.one es) _
 
-pub leaf_split : (es out : List Entry) (r : Option (RightHalf EntryList)) → after_split out r ≡ page.fit_leaf es → as_tree (after_split out r) ≡ fit_leaf es
+pub leaf_split : (es out : List Entry) (r : Option (RightHalf EntryList)) → after_split out r ≡ page.fit_leaf es → halves_of out r ≡ fit_leaf es
 leaf_split es out r e = ap as_tree e ∙ tree_leaf es

@@ -8,7 +8,7 @@ use Rattle.tree.specs.CopyMoves.{Split}
 use Rattle.tree.specs.CopyMemory.{place_at}
 use Rattle.faults.specs.declared.fault.Fault.{Fault}
 use Rattle.layout.specs.declared.change.RightHalf.{RightHalf}
-use Rattle.paths.specs.declared.page_entries.PageEntries.{PageEntries}
+use Rattle.layout.specs.declared.list.EntryList.{EntryList}
 use Rattle.paths.specs.declared.place.Placed.{Placed}
 use Rattle.paths.specs.PathsWrites.{Wrote, Unwrites}
 use Rattle.paths.specs.PathsPages.{write_of}
@@ -25,18 +25,18 @@ at_front : (level used p q : ℕ) (s : Split (List Entry)) (free : List ℕ) (m 
     → PlacedBy (place_at level s [] (p ∷ (q ∷ drop (used + 1 + 1) free))) free used m r m' → Places m level s free used r m'
 at_front level used p q s free m m' r h a b t = subst (λ (z : List ℕ). PlacedBy (place_at level s [] z) free used m r m') (sym (two_free free used p q h a b)) t
 
-pub first_refused : (level used p : ℕ) (right : Option (RightHalf PageEntries)) (es : List Entry) (free : List ℕ) (m m' : Image) (f : Fault) → used + 2 ≤ length free → p ≡ get_or free used 0
+pub first_refused : (level used p : ℕ) (right : Option (RightHalf EntryList)) (es : List Entry) (free : List ℕ) (m m' : Image) (f : Fault) → used + 2 ≤ length free → p ≡ get_or free used 0
     → Unwrites (write_of level p es ∷ []) m f m' → Places m level (halves_of es right) free used (Err f) m'
 first_refused level used p None es free m m' f h a u =
     at_front level used p (get_or free (used + 1) 0) (halves_of es None) free m m' (Err f) h a refl u
 first_refused level used p (Some r) es free m m' f h a u =
     at_front level used p (get_or free (used + 1) 0) (halves_of es (Some r)) free m m' (Err f) h a refl
-    (unwrites_less (write_of level p es ∷ []) (write_of level (get_or free (used + 1) 0) (entries r.entries.list) ∷ []) m m' f u)
+    (unwrites_less (write_of level p es ∷ []) (write_of level (get_or free (used + 1) 0) (entries r.entries) ∷ []) m m' f u)
 
-pub second_refused : (level used p q : ℕ) (right : Option (RightHalf PageEntries)) (r : RightHalf PageEntries) (es : List Entry) (free : List ℕ) (m m₁ m' : Image) (f : Fault) → used + 2 ≤ length free
-    → p ≡ get_or free used 0 → q ≡ get_or free (used + 1) 0 → right ≡ Some r → Wrote (write_of level p es ∷ []) m m₁ → Unwrites (write_of level q (entries r.entries.list) ∷ []) m₁ f m'
+pub second_refused : (level used p q : ℕ) (right : Option (RightHalf EntryList)) (r : RightHalf EntryList) (es : List Entry) (free : List ℕ) (m m₁ m' : Image) (f : Fault) → used + 2 ≤ length free
+    → p ≡ get_or free used 0 → q ≡ get_or free (used + 1) 0 → right ≡ Some r → Wrote (write_of level p es ∷ []) m m₁ → Unwrites (write_of level q (entries r.entries) ∷ []) m₁ f m'
     → Places m level (halves_of es right) free used (Err f) m'
 second_refused level used p q right r es free m m₁ m' f h a b e w u =
-    subst (λ (x : Option (RightHalf PageEntries)). Places m level (halves_of es x) free used (Err f) m') (sym e)
+    subst (λ (x : Option (RightHalf EntryList)). Places m level (halves_of es x) free used (Err f) m') (sym e)
     (at_front level used p q (halves_of es (Some r)) free m m' (Err f) h a b
-    (unwrites_more (write_of level p es ∷ []) (write_of level q (entries r.entries.list) ∷ []) m m₁ m' f w u))
+    (unwrites_more (write_of level p es ∷ []) (write_of level q (entries r.entries) ∷ []) m m₁ m' f w u))

@@ -14,7 +14,7 @@ use Rattle.faults.specs.declared.fault.Fault.{Fault}
 use Rattle.faults.specs.declared.fault.Fault.TheVariants.{Unsound}
 use Rattle.faults.specs.Accesses.{access, Fetches, Stores}
 use Rattle.paths.specs.PathsWrites.{Refuses, Unwrites}
-use Rattle.paths.specs.PathsPages.{UnreadPage, write_of, WritesPage}
+use Rattle.paths.specs.PathsPages.{Read, UnreadPage, write_of, WritesPage}
 use Rattle.paths.specs.PathsPages.UnreadPage.{refused, broken}
 
 read_refused : (m m' : Image) (p : ℕ) (old new : List ℕ) (f : StoreFault) → Reads m p old (Err f) m' new → Refuses m p f × (m' ≡ m)
@@ -40,8 +40,16 @@ pub page_empty : (m m' : Image) (p l n : ℕ) (b : List ℕ) (es : List Entry) �
 page_empty m m' p l n b es r o e q z =
     broken C refl r.1 (subst (λ (x : List ℕ). Own p l (content_of x)) r.2 o, ap entries_of (sym r.2) ∙ sym e ∙ none_left es n q z) r.3
 
-pub read_few : (b : List ℕ) (es : List Entry) → es ≡ entries_of b → length es ≤ 10
-read_few b es e = omega (arith, ap length e, length_entries b)
+pub page_read : (m m' : Image) (p l n : ℕ) (b : List ℕ) (es : List Entry) → Reads m p [] (Ok tt) m' b → Own p l (content_of b) → es ≡ entries_of b → n ≡ length es → (n ≡ 0 → ⊥) → Read m p l es m'
+page_read m m' p l n b es r o e q some = record {
+  has = r.0;
+  charged = r.1;
+  own = subst (λ (x : List ℕ). Own p l (content_of x)) r.2 o;
+  holds = e ∙ ap entries_of r.2;
+  some = omega (arith, some);
+  few = omega (arith, ap length e, length_entries b);
+  spends = r.3;
+}
 
 write_refused : (m m' : Image) (p : ℕ) (b : List ℕ) (f : StoreFault) → Writes m p b (Err f) m' → (m' ≡ m) × Refuses m' p f
 write_refused m m' p b Absent w = (w.1, subst (λ (x : Image). Refuses x p Absent) (sym w.1) w.0)

@@ -1,18 +1,17 @@
 -- One page or two written to the front of the free pages.
-use Rattle.std.specs.Prelude.{◌≡◌, ℕ, ◌+◌, List, [], length, drop, Some, None, Ok, Err, Option, Result}
+use Rattle.std.specs.Prelude.{◌≡◌, ℕ, ◌+◌, List, [], length, drop, Ok, Err, Option, Result}
 use Rattle.pages.specs.Image.{Image}
 use Rattle.layout.specs.declared.entry.Entry.{Entry}
 use Rattle.layout.specs.declared.change.ChildPages.{ChildPages}
 use Rattle.layout.specs.declared.change.ChildPages.TheVariants.{One, Two}
 use Rattle.layout.specs.Edits as page
-use Rattle.layout.specs.Listed.{entries}
+use Rattle.layout.specs.declared.list.EntryList.{EntryList}
+use Rattle.layout.specs.Changes.{after_split}
 use Rattle.tree.specs.CopyMoves.{Split, Made}
 use Rattle.tree.specs.CopyMoves.Split.{one, two}
 use Rattle.tree.specs.CopyMemory.{place_at}
 use Rattle.faults.specs.declared.fault.Fault.{Fault}
-use Rattle.paths.specs.declared.halves.Halves.{Halves}
 use Rattle.layout.specs.declared.change.RightHalf.{RightHalf}
-use Rattle.paths.specs.declared.page_entries.PageEntries.{PageEntries}
 use Rattle.paths.specs.declared.place.Placed.{Placed}
 use Rattle.paths.specs.PathsWrites.{Wrote, Unwrites}
 
@@ -21,18 +20,14 @@ abbrev pub pages_in : ChildPages → Split ℕ
 pages_in (One v) = one v
 pages_in (Two v k w) = two v k w
 
--- a page's entries, or those of its two halves
-abbrev pub halves_of : List Entry → Option (RightHalf PageEntries) → Split (List Entry)
-halves_of es None = one es
-halves_of es (Some r) = two es r.key (entries r.entries.list)
-
-abbrev pub parts_of : Halves → Split (List Entry)
-parts_of h = halves_of (entries h.left.list) h.right
-
--- the same, as the edits of a list have it
+-- the same as the edits of a list have it
 abbrev pub as_tree : {A : Type 0} → page.Split A → Split A
 as_tree (page.one x) = one x
 as_tree (page.two x k y) = two x k y
+
+-- a page's entries, or those of its two halves
+abbrev pub halves_of : List Entry → Option (RightHalf EntryList) → Split (List Entry)
+halves_of es right = as_tree (after_split es right)
 
 -- the code gives what the theory makes, from the free pages of which `used` were used before
 pub record Gives (made : Made (Split ℕ)) (free : List ℕ) (used : ℕ) (g : Placed) : Type 0 where

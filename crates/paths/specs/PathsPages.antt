@@ -3,7 +3,6 @@ use Rattle.std.specs.Prelude.{◌≡◌, ℕ, ◌<◌, ◌≤◌, List, [], ◌�
 use Rattle.pages.specs.Image.{Image, Has, spent}
 use Rattle.layout.specs.declared.entry.Entry.{Entry}
 use Rattle.layout.specs.Content.{Own, page}
-use Rattle.layout.specs.Listed.{entries}
 use Rattle.layout.specs.declared.visit.Rule.{Rule}
 use Rattle.layout.specs.declared.visit.Rule.TheVariants.{A, B, C, D, E, F}
 use Rattle.tree.specs.Tree.{Contents}
@@ -13,7 +12,6 @@ use Rattle.faults.specs.declared.fault.Fault.{Fault}
 use Rattle.faults.specs.declared.fault.Fault.TheVariants.{Unsound}
 use Rattle.faults.specs.Refusals.{unread}
 use Rattle.faults.specs.Accesses.{contents}
-use Rattle.paths.specs.declared.page_entries.PageEntries.{PageEntries}
 use Rattle.paths.specs.PathsWrites.{Refuses, Wrote, Unwrites}
 
 -- the rule that a page breaks for a reader who expects this level: B, it has another number or level; C, it has no entry
@@ -40,9 +38,9 @@ pub data UnreadPage (m : Image) (p level : ℕ) (f : Fault) (m' : Image) : Type 
   refused : (x : Access) → f ≡ unread x → x.at.page ≡ p → x.at.level ≡ level → Refuses m p x.fault → m' ≡ m → UnreadPage m p level f m'
   broken : (r : Rule) → f ≡ Unsound p r → 0 < m.charge → Breaks (contents m) p level r → m' ≡ spent m → UnreadPage m p level f m'
 
-abbrev pub ReadsPage : Image → ℕ → ℕ → Result PageEntries Fault → Image → Type 0
-ReadsPage m p level (Ok g) m' = Read m p level (entries g.list) m'
-ReadsPage m p level (Err f) m' = UnreadPage m p level f m'
+abbrev pub ReadsPage : Image → ℕ → ℕ → Result (Unit {0}) Fault → List Entry → Image → Type 0
+ReadsPage m p level (Ok u) es m' = Read m p level es m'
+ReadsPage m p level (Err f) es m' = UnreadPage m p level f m'
 
 -- a page written with these entries
 abbrev pub write_of : ℕ → ℕ → List Entry → Write

@@ -2,12 +2,11 @@
 #![tactic(auto)]
 
 pub mod copied;
-mod halves;
+mod entries;
 mod left;
 pub mod lodge;
 mod lodge_edits;
 mod page;
-mod page_entries;
 mod place;
 mod plan;
 mod step;

@@ -9,9 +9,9 @@ ghost use Rattle.paths.specs.LodgeTree.{Roots, LodgedBy};
 ghost use Rattle.paths.specs.LodgeKept.{LodgeIs, LodgeNextLaw, LodgeFreeLaw, LodgeRefusedLaw};
 
 use crate::copied::Copied;
-use crate::halves::Halves;
+use crate::entries::{child_at, count_at};
+use crate::lodge_edits::{enter_one, renew_child};
 use crate::page::{read_page, write_items};
-use crate::page_entries::PageEntries;
 use crate::place::{Placed, place};
 use crate::plan::Plan;
 use crate::step::Step;
@@ -19,6 +19,7 @@ use crate::trade::Trade;
 use faults::fault::Fault;
 use layout::change::ChildPages;
 use layout::entry::Entry;
+use layout::list::EntryList;
 use layout::page_ref::PageRef;
 use pages::store::PageStore;
 use records::free::FreeList;
@@ -26,22 +27,24 @@ use records::free::FreeList;
 // At a leaf that was read: asks whether the count is below the greatest (14), then the plan's questions, and writes.
 fn lodge_leaf<S: PageStore>(
     store: &mut S,
-    page: PageEntries,
+    list: &mut EntryList,
     address: u64,
     plan: Plan,
     free: &FreeList,
     trade: Trade,
 ) -> Result<Placed, Fault>
-    requires { trade.used ≡ 0 }
-    ensures leafs { Leafed (S.meaning store.old) (entries page.list) address (numbers free.now) plan result (S.meaning store.new) }
+    requires few { length (entries list.old) ≤ 10 }
+    requires unused { trade.used ≡ 0 }
+    ensures leafs { Leafed (S.meaning store.old) (entries list.old) address (numbers free.now) plan result (S.meaning store.new) }
     ensures path { IfOk result (λ g. g.trade.path ≡ trade.path) }
 {
-    if page.count(address) >= 65535 {
+    if count_at(list, address) >= 65535 {
         return Err(Fault::CountFull);
     }
-    let list = page.entered(address);
+    enter_one(list, address);
     plan.ask(list.len(), free.len())?;
-    place(store, 1, Halves::of_leaf(list), free, trade)
+    let right = list.split_leaf();
+    place(store, 1, list, &right, free, trade)
 }
 
 // Lodge at a page of a path.
@@ -57,19 +60,21 @@ fn lodge_at<S: PageStore>(
     ensures lodges { Lodged (S.meaning store.old) step.at.level step.at.page address (numbers free.now) plan result (S.meaning store.new) }
     ensures path { IfOk result (λ g. IsPath (S.meaning store.old) step.at.level step.at.page address g.trade.path.items) }
 {
-    let page = read_page(store, step.at)?;
+    let mut list = EntryList::new();
+    read_page(store, step.at, &mut list)?;
     if step.at.level == 1 {
         let trade = Trade::default().with_old(step.at.page);
-        return lodge_leaf(store, page, address, plan, free, trade);
+        return lodge_leaf(store, &mut list, address, plan, free, trade);
     }
     let child = Step {
-        at: page.child(step.at, address),
+        at: child_at(&list, step.at, address),
     };
-    let deep = plan.below(page.list.len());
+    let deep = plan.below(list.len());
     let Placed { pages, trade } = lodge_at(store, child, address, deep, free)?;
-    let halves = page.renew_child(address, pages);
+    renew_child(&mut list, address, pages);
+    let right = list.split_inner();
     let trade = trade.with_old(step.at.page);
-    place(store, step.at.level, halves, free, trade)
+    place(store, step.at.level, &list, &right, free, trade)
 }
 
 // A new root over the two pages of a root that was split.

@@ -5,7 +5,6 @@ ghost use Rattle.layout.specs.Content.{Own};
 ghost use Rattle.layout.specs.Listed.{entries};
 ghost use Rattle.paths.specs.PathsPages.{ReadsPage, WritesPage};
 
-use crate::page_entries::PageEntries;
 use faults::access::{fetch, put};
 use faults::fault::Fault;
 use layout::entry::Entry;
@@ -24,20 +23,25 @@ fn is_own(bytes: &[u8; 128], at: PageRef) -> bool
     reader.number() == at.page && reader.level() == at.level
 }
 
-// The entries of a page of this level. Refused where the page is not of this number and level (B) or has no entries (C).
-pub(crate) fn read_page<S: PageStore>(store: &mut S, at: PageRef) -> Result<PageEntries, Fault>
-    ensures { ReadsPage (S.meaning store.old) at.page at.level result (S.meaning store.new) }
+// Fills the lent list with the entries of a page of this level. Refused where the page is not of this number and level (B) or has no
+// entries (C).
+pub(crate) fn read_page<S: PageStore>(
+    store: &mut S,
+    at: PageRef,
+    list: &mut EntryList,
+) -> Result<(), Fault>
+    ensures { ReadsPage (S.meaning store.old) at.page at.level result (entries list.new) (S.meaning store.new) }
 {
     let mut bytes = [0; 128];
     fetch(store, at, &mut bytes)?;
     if !is_own(&bytes, at) {
         return Err(Fault::Unsound(at.page, Rule::B));
     }
-    let list = EntryList::of_page(&bytes);
+    list.read(&bytes);
     if list.len() == 0 {
         return Err(Fault::Unsound(at.page, Rule::C));
     }
-    Ok(PageEntries { list })
+    Ok(())
 }
 
 // Writes a page of these entries.
@@ -52,14 +56,4 @@ pub(crate) fn write_items<S: PageStore>(
     let mut bytes = [0; 128];
     let _ = write_page(&mut bytes, at.level, at.page, items);
     put(store, at, &bytes)
-}
-
-pub(crate) fn write_entries<S: PageStore>(
-    store: &mut S,
-    at: PageRef,
-    page: &PageEntries,
-) -> Result<(), Fault>
-    ensures { WritesPage (S.meaning store.old) at.level at.page (entries page.now.list) result (S.meaning store.new) }
-{
-    write_items(store, at, page.list.as_slice())
 }

@@ -1,13 +1,15 @@
 // The new pages of a path, written to the front of the free pages.
 ghost use Rattle.std.specs.Prelude.{◌≡◌, ℕ, ◌+◌, ◌≤◌, length, IfOk};
 ghost use Rattle.records.specs.Free.{numbers};
-ghost use Rattle.paths.specs.LodgePlaces.{parts_of, Places};
+ghost use Rattle.layout.specs.Changes.{after_split, Few};
+ghost use Rattle.layout.specs.Listed.{entries};
+ghost use Rattle.paths.specs.LodgePlaces.{halves_of, Places};
 
-use crate::halves::Halves;
-use crate::page::write_entries;
+use crate::page::write_items;
 use crate::trade::Trade;
 use faults::fault::Fault;
-use layout::change::ChildPages;
+use layout::change::{ChildPages, RightHalf};
+use layout::list::EntryList;
 use layout::page_ref::PageRef;
 use pages::store::PageStore;
 use records::free::FreeList;
@@ -19,21 +21,22 @@ pub struct Placed {
     pub trade: Trade,
 }
 
-// Writes one page, or two where it was split, the left one first.
+// Writes a page, or two where it was split, the left one first.
 pub(crate) fn place<S: PageStore>(
     store: &mut S,
     level: u8,
-    halves: Halves,
+    left: &EntryList,
+    right: &Option<RightHalf<EntryList>>,
     free: &FreeList,
     mut trade: Trade,
 ) -> Result<Placed, Fault>
-    requires { trade.used + 2 ≤ length (numbers free.now) }
-    ensures places { Places (S.meaning store.old) level (parts_of halves) (numbers free.now) trade.used result (S.meaning store.new) }
+    requires room { trade.used + 2 ≤ length (numbers free.now) }
+    requires few { Few (after_split (entries left.now) right.now) }
+    ensures places { Places (S.meaning store.old) level (halves_of (entries left.now) right.now) (numbers free.now) trade.used result (S.meaning store.new) }
     ensures path { IfOk result (λ g. g.trade.path ≡ trade.path) }
 {
-    let Halves { left, right } = halves;
     let first = trade.next_page(free);
-    write_entries(store, PageRef { page: first, level }, &left)?;
+    write_items(store, PageRef { page: first, level }, left.as_slice())?;
     match right {
         None => Ok(Placed {
             pages: ChildPages::One(first),
@@ -41,13 +44,13 @@ pub(crate) fn place<S: PageStore>(
         }),
         Some(half) => {
             let second = trade.next_page(free);
-            write_entries(
+            write_items(
                 store,
                 PageRef {
                     page: second,
                     level,
                 },
-                &half.entries,
+                half.entries.as_slice(),
             )?;
             Ok(Placed {
                 pages: ChildPages::Two(first, half.key, second),

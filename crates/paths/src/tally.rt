@@ -1,8 +1,10 @@
 // Tally: how many events an address has.
 ghost use Rattle.paths.specs.TallyRules.{TallyIs};
 
+use crate::entries::{child_at, count_at};
 use crate::page::read_page;
 use faults::fault::Fault;
+use layout::list::EntryList;
 use layout::page_ref::PageRef;
 use pages::store::PageStore;
 
@@ -14,9 +16,10 @@ pub fn tally<S: PageStore>(store: &mut S, root: PageRef, address: u64) -> Result
     if root.level == 0 {
         return Ok(0);
     }
-    let page = read_page(store, root)?;
+    let mut list = EntryList::new();
+    read_page(store, root, &mut list)?;
     if root.level == 1 {
-        return Ok(page.count(address));
+        return Ok(count_at(&list, address));
     }
-    tally(store, page.child(root, address), address)
+    tally(store, child_at(&list, root, address), address)
 }

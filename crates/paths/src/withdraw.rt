@@ -7,12 +7,14 @@ ghost use Rattle.paths.specs.Withdrawals.{PlacesLeft, Withdrawn};
 ghost use Rattle.paths.specs.WithdrawRules.{RoomFor, WithdrawIs, WithdrawNextLaw, WithdrawFreeLaw, WithdrawRefusedLaw};
 
 use crate::copied::Copied;
+use crate::entries::child_at;
 use crate::left::Left;
-use crate::page::{read_page, write_entries};
-use crate::page_entries::PageEntries;
+use crate::page::{read_page, write_items};
 use crate::step::Step;
 use crate::trade::Trade;
+use crate::withdraw_edits::{restore_child, take_one};
 use faults::fault::Fault;
+use layout::list::EntryList;
 use layout::page_ref::PageRef;
 use pages::store::PageStore;
 use records::free::FreeList;
@@ -21,22 +23,23 @@ use records::free::FreeList;
 fn place_left<S: PageStore>(
     store: &mut S,
     level: u8,
-    page: &PageEntries,
+    list: &EntryList,
     free: &FreeList,
     mut trade: Trade,
 ) -> Result<Left, Fault>
-    requires { trade.used < length (numbers free.now) }
-    ensures places { PlacesLeft (S.meaning store.old) level (entries page.now.list) (numbers free.now) trade.used result (S.meaning store.new) }
+    requires few { length (entries list.now) ≤ 10 }
+    requires room { trade.used < length (numbers free.now) }
+    ensures places { PlacesLeft (S.meaning store.old) level (entries list.now) (numbers free.now) trade.used result (S.meaning store.new) }
     ensures path { IfOk result (λ g. g.trade.path ≡ trade.path) }
 {
-    if page.list.len() == 0 {
+    if list.len() == 0 {
         return Ok(Left { page: None, trade });
     }
     let at = PageRef {
         page: trade.next_page(free),
         level,
     };
-    write_entries(store, at, page)?;
+    write_items(store, at, list.as_slice())?;
     Ok(Left {
         page: Some(at.page),
         trade,
@@ -54,19 +57,20 @@ fn withdraw_at<S: PageStore>(
     ensures withdraws { Withdrawn (S.meaning store.old) step.at.level step.at.page address (numbers free.now) result (S.meaning store.new) }
     ensures path { IfOk result (λ g. IsPath (S.meaning store.old) step.at.level step.at.page address g.trade.path.items) }
 {
-    let mut page = read_page(store, step.at)?;
+    let mut list = EntryList::new();
+    read_page(store, step.at, &mut list)?;
     if step.at.level == 1 {
-        page.take_one(address)?;
+        take_one(&mut list, address)?;
         let trade = Trade::default().with_old(step.at.page);
-        return place_left(store, 1, &page, free, trade);
+        return place_left(store, 1, &list, free, trade);
     }
     let child = Step {
-        at: page.child(step.at, address),
+        at: child_at(&list, step.at, address),
     };
     let below = withdraw_at(store, child, address, free)?;
-    page.restore_child(address, below.page);
+    restore_child(&mut list, address, below.page);
     let trade = below.trade.with_old(step.at.page);
-    place_left(store, step.at.level, &page, free, trade)
+    place_left(store, step.at.level, &list, free, trade)
 }
 
 // Whether a path of this height can be copied: it has at most six pages, and as many are free.

@@ -1,5 +1,5 @@
 -- What a row of words writes.
-use Rattle.std.specs.Prelude.{◌≡◌, ℕ, ◌+◌, ◌-◌, ◌^◌, ◌<◌, List, [], map, length, take, drop, Some, None, slice_index, slice_index_or}
+use Rattle.std.specs.Prelude.{◌≡◌, ℕ, ◌+◌, ◌-◌, ◌^◌, ◌<◌, ◌⊎◌, List, [], ◌∷◌, ◌++◌, map, length, take, drop, Some, None, ◌≢◌, slice_index, slice_index_or}
 use Rattle.std.specs.Borrow.{Bor}
 use Rattle.orders.specs.declared.point.Point.{Point}
 use Rattle.orders.specs.declared.refusal.Refusal.TheVariants.{BoxEnds}
@@ -13,15 +13,39 @@ use Rattle.script.specs.declared.trouble.Trouble.TheVariants.{Refused, Unclear, 
 abbrev pub texts : List (Bor (List ℕ)) → List (List ℕ)
 texts ws = map (λ w. w.now) ws
 
--- each word writes the number in its place, of 64 bits at most
-abbrev pub Numbers : List (List ℕ) → List ℕ → Type 0
-Numbers ws vs = (length vs ≡ length ws) × ((i : ℕ) → i < length vs → NumberIs (slice_index_or ws i []) (2 ^ 64 - 1) (Some (slice_index vs i)))
+-- the word is one of these
+abbrev pub IsOneOf : List (List ℕ) → List ℕ → Type 0
+IsOneOf [] w = ⊥
+IsOneOf (v ∷ vs) w = (w ≡ v) ⊎ IsOneOf vs w
 
--- why the words write no row of numbers: one of them writes none; or memory was short
-abbrev pub NoNumbers : List (List ℕ) → Trouble → Type 0
-NoNumbers ws (Unclear r) = (r ≡ Number) × ((i : ℕ) × (i < length ws) × NumberIs (slice_index_or ws i []) (2 ^ 64 - 1) None)
-NoNumbers ws (Refused f) = ⊥
-NoNumbers ws Memory = Unit {0}
+-- the word in the place i writes the number, which is no greater than the limit
+abbrev pub NumberAt : List (List ℕ) → ℕ → ℕ → ℕ → Type 0
+NumberAt ws i limit v = NumberIs (slice_index_or ws i []) limit (Some v)
+
+-- the words end in the name and its number, behind the words `before`; or in the name and a word they do not end, `before` is all of them, and the
+-- number is the usual one
+abbrev pub EndsIn : List ℕ → ℕ → ℕ → List (List ℕ) → List (List ℕ) → ℕ → Type 0
+EndsIn name usual limit ws before v =
+    ((w : List ℕ) × (ws ≡ before ++ name ∷ w ∷ []) × NumberIs w limit (Some v))
+    ⊎ ((before ≡ ws) × (v ≡ usual) × ((bs : List (List ℕ)) (w : List ℕ) → ws ≢ bs ++ name ∷ w ∷ []))
+
+-- the words end in the name and a word that writes no number
+abbrev pub EndsWrongly : List ℕ → ℕ → List (List ℕ) → Type 0
+EndsWrongly name limit ws = (bs : List (List ℕ)) × (w : List ℕ) × (ws ≡ bs ++ name ∷ w ∷ []) × NumberIs w limit None
+
+-- each word writes the number in its place, which is no greater than the limit
+abbrev pub NumbersTo : ℕ → List (List ℕ) → List ℕ → Type 0
+NumbersTo limit ws vs = (length vs ≡ length ws) × ((i : ℕ) → i < length vs → NumberAt ws i limit (slice_index vs i))
+
+-- why the words write no row of such numbers: one of them writes none; or memory was short
+abbrev pub NoNumbersTo : ℕ → List (List ℕ) → Trouble → Type 0
+NoNumbersTo limit ws (Unclear r) = (r ≡ Number) × ((i : ℕ) × (i < length ws) × NumberIs (slice_index_or ws i []) limit None)
+NoNumbersTo limit ws (Refused f) = ⊥
+NoNumbersTo limit ws Memory = Unit {0}
+
+-- the same of 64 bits
+abbrev pub Numbers : List (List ℕ) → List ℕ → Type 0
+Numbers ws vs = NumbersTo (2 ^ 64 - 1) ws vs
 
 -- the words write the point, in a space of n coordinates
 abbrev pub Written : ℕ → List (List ℕ) → Point → Type 0

@@ -1,9 +1,9 @@
 // Numbers, points and boxes, and the lines that ask the order alone. What is refused is written out, and not by `into`, whose step the proofs
 // here do not get past.
-ghost use Rattle.std.specs.Prelude.{◌≡◌, ℕ, ◌-◌, ◌^◌, Some, None, MatchResult};
+ghost use Rattle.std.specs.Prelude.{◌≡◌, ℕ, ◌-◌, ◌^◌, ◌⊎◌, Some, None, MatchResult};
 ghost use Rattle.script.specs.Grammar.{QuestionIs, FirstIs};
 ghost use Rattle.script.specs.Numbers.{NumberIs};
-ghost use Rattle.script.specs.Words.{texts, Numbers, NoNumbers, Written, NoPoint, Ends, NoBox};
+ghost use Rattle.script.specs.Words.{texts, Numbers, NoNumbersTo, Written, NoPoint, Ends, NoBox};
 ghost use Rattle.script.specs.declared.reason.Reason.TheVariants.{Number as is_number};
 
 use crate::number::number;
@@ -26,13 +26,15 @@ pub fn parse_number(word: &str, limit: u64) -> Result<u64, Reason>
 pub(crate) fn parse_as<T: TryFrom<u64>>(word: &str) -> Result<T, Reason>
 where
     T::Error: Drop,
-    ensures { MatchResult result (λ v. (k : ℕ) × NumberIs word.now (2 ^ 64 - 1) (Some k) × T.try_from_gives k (Ok v)) (λ e. e ≡ is_number) }
+    ensures { MatchResult result
+        (λ v. (k : ℕ) × NumberIs word.now (2 ^ 64 - 1) (Some k) × T.try_from_gives k (Ok v))
+        (λ e. (e ≡ is_number) × (NumberIs word.now (2 ^ 64 - 1) None ⊎ ((k : ℕ) × (x : T.Error) × NumberIs word.now (2 ^ 64 - 1) (Some k) × T.try_from_gives k (Err x)))) }
 {
     T::try_from(parse_number(word, u64::MAX)?).map_err(|_| Reason::Number)
 }
 
 fn parse_numbers(heap: Global, words: &[&str]) -> Result<Vec<u64>, Trouble>
-    ensures { MatchResult result (λ v. Numbers (texts words.now) v.items) (NoNumbers (texts words.now)) }
+    ensures { MatchResult result (λ v. Numbers (texts words.now) v.items) (NoNumbersTo (2 ^ 64 - 1) (texts words.now)) }
 {
     let mut numbers = Vec::new(heap);
     for word in words {

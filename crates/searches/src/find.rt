@@ -1,7 +1,8 @@
 // What a search answers.
 use orders::point::Point;
 
-// An event that a search found: its address, its point and its count.
+// An event that a search found: its address, its point and its count. It is laid out as in C, so that callers in other languages can lend memory for finds.
+#[repr(C)]
 #[derive(Clone, Copy, PartialEq, Eq, Debug)]
 pub struct Find {
     pub address: u64,

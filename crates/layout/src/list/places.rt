@@ -36,11 +36,19 @@ impl EntryList {
     pub fn of_page(bytes: &[u8; 128]) -> EntryList
         ensures { entries result ≡ entries_of bytes.now }
     {
-        let mut items = ArrayVec::new();
+        let mut list = EntryList::new();
+        list.read(bytes);
+        list
+    }
+
+    // Takes the entries of a page in place of its own. A list that is read into is not moved: moving one costs more than reading it.
+    pub fn read(&mut self, bytes: &[u8; 128])
+        ensures { entries self.new ≡ entries_of bytes.now }
+    {
+        self.items.clear();
         for e in PageReader::new(bytes) {
-            items.push(e);
+            self.items.push(e);
         }
-        EntryList { items }
     }
 
     pub fn len(&self) -> usize

@@ -1,5 +1,5 @@
 use Rattle.std.proofs.lemmas.Result.{err_from_is_err_and}
-use Rattle.paths.proofs.PathsAccesses.{page_refused, page_misplaced, page_empty, read_few}
+use Rattle.paths.proofs.PathsAccesses.{page_refused, page_misplaced, page_empty, page_read}
 use Rattle.paths.proofs.page.read_page.Goals as goal
 use Rattle.std.proofs.Common.{refl}
 
@@ -12,7 +12,7 @@ pub returns-then-not-is_own : goal.returns-then-not-is_own
 returns-then-not-is_own g c = page_misplaced _ _ _ _ _ c.in_ok-fetch.ensures c.if-not-is_own.ensures.1
 
 pub returns-then-len-eq0 : goal.returns-then-len-eq0
-returns-then-len-eq0 g c = page_empty _ _ _ _ _ _ _ c.in_ok-fetch.ensures (c.if-not-is_own.ensures.0 refl) c.of_page-list.ensures c.len.ensures.is c.if-len-eq0.true
+returns-then-len-eq0 g c = page_empty _ _ _ _ _ _ _ c.in_ok-fetch.ensures (c.if-not-is_own.ensures.0 refl) c.read.ensures c.len.ensures.is c.if-len-eq0.true
 
-pub invariant_of-result : goal.invariant_of-result
-invariant_of-result g c = record { few = read_few c.fetch.new.into _ c.of_page-list.ensures }
+pub returns : goal.returns
+returns g c = page_read _ _ _ _ _ _ _ c.in_ok-fetch.ensures (c.if-not-is_own.ensures.0 refl) c.read.ensures c.len.ensures.is c.if-len-eq0.false

@@ -11,7 +11,7 @@ returns-in_err-start c =
 pub returns-in_err-b : goal.returns-in_err-b
 returns-in_err-b c =
     let p = err_from_is_err_and c.from_residual-in_err-b.result c.from_residual-in_err-b.ensures.1 in
-    rw (p.1, p.2) (first_no_box c.args.words.now c.args.n c.in_err-b.field-0.0 (omega arith) c.in_err-b.ensures)
+    rw (p.1, p.2) (first_no_box c.args.words.now c.args.n c.in_ok-start.start c.in_err-b.field-0.0 (omega arith) c.in-from.is-from c.in_ok-start.ensures c.in_err-b.ensures)
 
 pub returns : goal.returns
-returns c = first_written c.args.words.now c.args.n c.in_ok-b.b c.in_ok-start.start (omega arith) c.in-from.is-from c.in_ok-start.ensures c.in_ok-b.ensures
+returns c = first_written c.args.words.now c.args.n c.in_ok-b.b.low c.in_ok-b.b.high c.in_ok-start.start (omega arith) c.in-from.is-from c.in_ok-start.ensures c.in_ok-b.ensures

@@ -1,0 +1,13 @@
+use Rattle.std.proofs.Common.{◌≡◌, ℕ, List, ◌++◌}
+use Rattle.std.specs.Fmt.{HasWritten, IsPlainFormatter}
+use Rattle.std.specs.Slice.Iter.{chunks_rest, chunks_size}
+use Rattle.hex.specs.Hex.{encode_lower}
+use Rattle.answers.proofs.text.HexDisplay.fmt.Given as goal
+
+abbrev pub invariant-loop-part : goal.invariant-loop-part
+invariant-loop-part g l =
+    (goal.iterator-loop-part g).can_next l.part-iterator
+    × (goal.iterator-loop-part g).is_finite l.part-iterator
+    × (chunks_size l.part-iterator ≡ 128)
+    × (IsPlainFormatter l.initial.f → (done : List ℕ) × HasWritten g.W.Write.write_str_gives l.initial.f done l.f
+    × (done ++ encode_lower (chunks_rest l.part-iterator) ≡ encode_lower l.fn.self.0.now))

@@ -1,0 +1,51 @@
+-- What a call does, and how the answer tells it.
+use Rattle.std.specs.Prelude.{◌≡◌, ℕ, min, [], length, replicate, Ok as Done, Err}
+use Rattle.pages.specs.Image.{Image, Reads, Writes}
+use Rattle.orders.specs.Orders.{Order}
+use Rattle.searches.specs.Finds.{ending_of}
+use Rattle.index.specs.Model.{Call, Answer as IndexAnswer, State, refusal}
+use Rattle.index.specs.Model.Call.{formats, opens, shuts, lodges, withdraws, tallies, searches, grants}
+use Rattle.index.specs.Model.Answer.{accepted, counted, found}
+use Rattle.index.specs.Opening.{Opening}
+use Rattle.index.specs.Steps.{Step}
+use Rattle.script.specs.declared.call.Access.{Access}
+use Rattle.script.specs.declared.call.Access.TheVariants.{Read, Write}
+use Rattle.script.specs.declared.call.IndexCall.{IndexCall}
+use Rattle.script.specs.declared.call.IndexCall.TheVariants.{Grant, Format, Open, Shut, Lodge, Withdraw, Tally, Search}
+use Rattle.answers.specs.declared.answer.Answer.{Answer}
+use Rattle.answers.specs.declared.answer.Answer.TheVariants.{Ok, Count, Found, Page, Denied, Refused}
+
+-- the call of the index that a line asks for: an opening is lent 64 records at most, a search room for 10,240 finds
+abbrev pub call_of : IndexCall → Call
+call_of (Grant charge) = grants charge
+call_of Format = formats
+call_of (Open records) = opens (min records 64)
+call_of Shut = shuts
+call_of (Lodge x) = lodges x.coords
+call_of (Withdraw x) = withdraws x.coords
+call_of (Tally x) = tallies x.coords
+call_of (Search asked) = searches asked.query.low.coords asked.query.high.coords asked.start (min asked.room 10240)
+
+-- an opening is also told by the bytes of the memory, whoever wrote them
+abbrev pub Opens : Order → State → IndexAnswer → State → Call → Type 0
+Opens o s a u (opens records) = Opening o s records a u
+Opens o s a u _ = Unit {0}
+
+abbrev pub Does : Order → State → IndexAnswer → State → Call → Type 0
+Does o s a u call = Step o s a u call × Opens o s a u call
+
+-- From the state s to the state u the call is carried out, and the answer tells what the index answered, in a space of n coordinates.
+abbrev pub Carried : Order → ℕ → State → Answer → State → Call → Type 0
+Carried o n s Ok u call = Does o s accepted u call
+Carried o n s (Count k) u call = Does o s (counted k) u call
+Carried o n s (Found r finds m) u call = (m ≡ n) × (r.count ≡ length finds.items) × Does o s (found finds.items r.reads (ending_of r.ending)) u call
+Carried o n s (Refused f) u call = Does o s (refusal f) u call
+Carried o n s _ u call = ⊥
+
+-- An access to the store, from the meaning m to the meaning m', and its answer. A write fills the page; the lent page of a read is of no matter.
+abbrev pub Accessed : Image → Access → Answer → Image → Type 0
+Accessed m (Read p) (Page bytes) m' = Reads m p [] (Done tt) m' bytes
+Accessed m (Read p) (Denied f) m' = Reads m p [] (Err f) m' []
+Accessed m (Write p byte) Ok m' = Writes m p (replicate 128 byte) (Done tt) m'
+Accessed m (Write p byte) (Denied f) m' = Writes m p (replicate 128 byte) (Err f) m'
+Accessed m access answer m' = ⊥
