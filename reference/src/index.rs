@@ -118,8 +118,9 @@ impl<S: Store> Index<S> {
     }
 
     pub fn lodge(&mut self, point: Point) -> Result<(), Refusal> {
-        let (known, address) = self.asked(point)?;
-        let path = self.path(&known, address)?;
+        let (root, address) = self.asked(point)?;
+        let path = self.path(root, address)?;
+        let known = self.known.as_ref().expect("open");
         let pages = raised(&path, lodged(&path, address)?, &known.free);
         let height = pages.last().expect("a leaf at least").level;
         if height > HIGHEST {
@@ -128,34 +129,32 @@ impl<S: Store> Index<S> {
         if known.free.len() < pages.len() + RESERVE {
             return Err(Refusal::Room);
         }
-        let total = known.total + 1;
-        self.replace(Known { height, total, ..known }, &path, &pages)
+        self.replace(height, known.total + 1, &path, &pages)
     }
 
     pub fn withdraw(&mut self, point: Point) -> Result<(), Refusal> {
-        let (known, address) = self.asked(point)?;
-        let path = self.path(&known, address)?;
+        let (root, address) = self.asked(point)?;
+        let path = self.path(root, address)?;
+        let known = self.known.as_ref().expect("open");
         let pages = lowered(&path, withdrawn(&path, address)?, &known.free);
         let height = if pages.is_empty() { 0 } else { known.height };
-        let total = known.total - 1;
-        self.replace(Known { height, total, ..known }, &path, &pages)
+        self.replace(height, known.total - 1, &path, &pages)
     }
 
     pub fn tally(&mut self, point: Point) -> Result<u16, Refusal> {
-        let (known, address) = self.asked(point)?;
-        let path = self.path(&known, address)?;
+        let (root, address) = self.asked(point)?;
+        let path = self.path(root, address)?;
         Ok(leaf_of(&path).iter().find(|e| e.key == address).map_or(0, |e| e.value))
     }
 
     /// The events of the box at or above `start`, at most `room` of them.
     pub fn search(&mut self, b: &QueryBox, start: u64, room: u32) -> Result<Found, Refusal> {
-        let known = self.known.clone().ok_or(Refusal::Shut)?;
+        let root = self.root()?;
         if !self.order.space.has(&b.low) || !self.order.space.has(&b.high) {
             return Err(Refusal::Outside);
         }
         let mut found = Found { finds: Vec::new(), reads: 0, ending: Ending::Done };
-        if known.height > 0 {
-            let spot = self.root_spot(known.root, known.height);
+        if let Some(spot) = root {
             self.search_page(&spot, &Asked { b, start, room }, &mut found);
         }
         Ok(found)
@@ -201,11 +200,17 @@ impl<S: Store> Index<S> {
         Ok(sum)
     }
 
+    /// The root of an open index, if it has a tree; the question 5.
+    fn root(&self) -> Result<Option<Spot>, Refusal> {
+        let known = self.known.as_ref().ok_or(Refusal::Shut)?;
+        Ok((known.height > 0).then(|| self.root_spot(known.root, known.height)))
+    }
+
     /// The questions 5 and 6.
-    fn asked(&self, point: Point) -> Result<(Known, u64), Refusal> {
-        let known = self.known.clone().ok_or(Refusal::Shut)?;
+    fn asked(&self, point: Point) -> Result<(Option<Spot>, u64), Refusal> {
+        let root = self.root()?;
         let address = self.order.address(&point).ok_or(Refusal::Outside)?;
-        Ok((known, address))
+        Ok((root, address))
     }
 
     fn read_tree_page(&mut self, spot: &Spot) -> Result<TreePage, Fault> {
@@ -214,12 +219,9 @@ impl<S: Store> Index<S> {
     }
 
     /// The pages whose region holds the address, from the root to a leaf.
-    fn path(&mut self, known: &Known, address: u64) -> Result<Vec<Step>, Refusal> {
+    fn path(&mut self, root: Option<Spot>, address: u64) -> Result<Vec<Step>, Refusal> {
         let mut path = Vec::new();
-        if known.height == 0 {
-            return Ok(path);
-        }
-        let mut spot = self.root_spot(known.root, known.height);
+        let Some(mut spot) = root else { return Ok(path) };
         loop {
             let page = self.read_tree_page(&spot).map_err(|fault| unread(fault, spot.number, spot.level))?;
             if spot.level == 1 {
@@ -233,18 +235,17 @@ impl<S: Store> Index<S> {
         }
     }
 
-    /// Writes the new pages and then the header; then the old path is free. `known` has the new height and total, and the
-    /// free list as it was.
-    fn replace(&mut self, known: Known, path: &[Step], pages: &[TreePage]) -> Result<(), Refusal> {
+    /// Writes the new pages and then the header; then the old path is free, each of its pages put to the front, leaf first.
+    fn replace(&mut self, height: u8, total: u32, path: &[Step], pages: &[TreePage]) -> Result<(), Refusal> {
         for page in pages {
             self.store.write(page.number, &page.encode()).map_err(|fault| unwritten(fault, page.number, page.level))?;
         }
         let root = pages.last().map_or(0, |page| page.number);
-        let mut free = known.free[pages.len()..].to_vec();
+        let mut free = self.known.as_ref().expect("open").free[pages.len()..].to_vec();
         for step in path.iter().rev() {
             free.insert(0, step.page.number);
         }
-        let known = Known { root, free, ..known };
+        let known = Known { height, root, total, free };
         self.write_header(&known)?;
         self.known = Some(known);
         Ok(())

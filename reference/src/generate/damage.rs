@@ -4,7 +4,7 @@ use super::random::Random;
 use super::tree::Tree;
 use crate::page::TreePage;
 use crate::rules::Spot;
-use crate::store::{Page, PAGE};
+use crate::store::{Page, MOST, PAGE};
 
 struct Damage<'a> {
     random: &'a mut Random,
@@ -30,6 +30,9 @@ impl Damage<'_> {
     fn once(&mut self) {
         if self.tree.pages.is_empty() {
             return self.header();
+        }
+        if self.pages.len() == MOST as usize && self.random.percent(40) {
+            return self.rule_a();
         }
         match self.random.weighted(&[16, 18, 5, 12, 20, 24, 3, 2]) {
             0 => self.header(),
@@ -116,6 +119,8 @@ impl Damage<'_> {
             5 => self.random.between(1, last.into()) as u16,
             _ => other,
         };
+        // A page of the store that the index does not use.
+        let number = if last == MOST && self.random.percent(60) { MOST + 1 } else { number };
         match self.page_of(|spot, _| spot.level > 1) {
             Some((spot, page)) if self.random.percent(85) => {
                 let entry = self.random.below(page.entries.len());

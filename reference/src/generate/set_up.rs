@@ -320,7 +320,7 @@ fn grown(random: &mut Random, order: &Order, last: u16, tall: bool) -> (Tree, Op
 /// Sometimes the memory is made smaller, so that about six pages are left free.
 fn tightened(random: &mut Random, tree: &mut Tree, below: u16, last: u16, layers: &[LayerLine]) -> (u16, u16) {
     let less = 1 + tree.pages.len() as u16 + *random.pick(&[4, 5, 6, 6, 7, 8, 12]);
-    if tree.pages.is_empty() || less >= last || random.percent(50) {
+    if tree.pages.is_empty() || less >= last || below > MOST || random.percent(50) {
         return (below, last);
     }
     let below_less = below - (last - less);
@@ -358,7 +358,9 @@ fn spoil_slots(random: &mut Random, bytes: &mut Vec<u8>, pages: u16) -> u16 {
         0 => bytes.copy_within(other..other + 2, slot),
         1 => bytes[slot..slot + 2].copy_from_slice(&(pages + 1).to_le_bytes()),
         2 => bytes[slot..slot + 2].copy_from_slice(&random.between(0, 65_535).to_le_bytes()[..2]),
-        3 => bytes.truncate(random.below(bytes.len())),
+        // Too few slots, often by one or by a byte.
+        3 if random.percent(40) => bytes.truncate(random.below(bytes.len())),
+        3 => bytes.truncate((pages as usize + random.below(2)) * SLOT + random.below(2) * (SLOT - 1)),
         4 => return *random.pick(&[0, 1025, 65_535, pages + 1]),
         _ => return random.between(1, pages.into()) as u16,
     }
