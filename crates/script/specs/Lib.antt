@@ -6,3 +6,4 @@ pub mod Calling
 pub mod Setting
 pub mod Reasons
 pub mod Lines
+pub mod Heard

@@ -2,6 +2,7 @@
 #![tactic(auto)]
 
 pub mod call;
+pub mod heard;
 pub mod line;
 pub mod number;
 pub mod parse;

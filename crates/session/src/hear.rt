@@ -2,10 +2,10 @@
 use crate::session::{Ending, Session};
 use answers::answer::Answer;
 use orders::refusal::Refusal;
-use script::line::{Line, parse_line};
+use script::heard::{self, Heard};
+use script::line::Line;
 use script::setup::Setup;
 use script::trouble::Trouble;
-use script::words::{joined, split_words};
 use std::alloc::AllocError;
 
 // Answers a line.
@@ -26,15 +26,11 @@ pub fn hear<'a>(
     session: &mut Session,
     line: &'a str,
 ) -> anyhow::Result<Option<(String, Result<Line<'a>, Refusal>)>> {
-    if line.starts_with('#') {
+    let Some(Heard { echo, says }) = heard::hear(rt.alloc(), line, session.chosen().space.n())?
+    else {
         return Ok(None);
-    }
-    let words = split_words(rt.alloc(), line)?;
-    if words.is_empty() {
-        return Ok(None);
-    }
-    let echo = joined(rt.alloc(), words.as_slice())?;
-    match parse_line(rt.alloc(), words.as_slice(), session.chosen().space.n()) {
+    };
+    match says {
         Ok(Line::Setup(Setup::Dump)) => note(rt, session, echo.as_str(), Ending::Dump)?,
         Ok(Line::Setup(Setup::Save(file))) => {
             let name = String::from_str(rt.alloc(), file)?;

@@ -1,0 +1,30 @@
+// A line as it is heard: its words with single spaces, and what they say.
+ghost use Rattle.std.specs.Prelude.{IfOk};
+ghost use Rattle.script.specs.Heard.{HeardIs};
+
+use crate::line::{Line, parse_line};
+use crate::trouble::Trouble;
+use crate::words::{joined, split_words};
+use std::alloc::{AllocError, Global};
+
+#[derive(Drop)]
+pub struct Heard<'a> {
+    pub echo: String,
+    pub says: Result<Line<'a>, Trouble>,
+}
+
+// Hears a line, where the space has n coordinates. None of a comment, and of a line without words.
+pub fn hear<'a>(heap: Global, line: &'a str, n: u8) -> Result<Option<Heard<'a>>, AllocError>
+    ensures { IfOk result (HeardIs n line.now) }
+{
+    if line.starts_with('#') {
+        return Ok(None);
+    }
+    let words = split_words(heap, line)?;
+    if words.is_empty() {
+        return Ok(None);
+    }
+    let echo = joined(heap, words.as_slice())?;
+    let says = parse_line(heap, words.as_slice(), n);
+    Ok(Some(Heard { echo, says }))
+}
