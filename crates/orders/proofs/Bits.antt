@@ -1,6 +1,7 @@
 -- One bit more of an address, from the low end and from the top; and one bit less that the coordinates of a block lack.
-use Rattle.std.proofs.Common.{◌≡◌, ℕ, suc, refl, div-le_self, ◌+◌, ◌-◌, ◌*◌, ◌/◌, ◌%◌, ◌^◌, ◌<◌, ◌≤◌, List, length, sym, inl, inr, arith, get_or-set_same, get_or-set_other}
-use Rattle.std.specs.Prelude.{slice_index, slice_set}
+use Rattle.std.proofs.Math.Nat.{pow-zero}
+use Rattle.std.proofs.Common.{◌≡◌, div-one, ◌∙◌, ℕ, suc, refl, div-le_self, ◌+◌, ◌-◌, ◌*◌, ◌/◌, ◌%◌, ◌^◌, ◌<◌, ◌≤◌, List, length, sym, inl, inr, arith, get_or-set_same, get_or-set_other}
+use Rattle.std.specs.Prelude.{[], ◌∷◌, slice_index, slice_set}
 use Rattle.std.proofs.lemmas.Bool.{cases_eq, cases_lt}
 use Rattle.std.proofs.lemmas.List.{get_or_past}
 use Rattle.orders.specs.Interleave.{point_at, address_of, grown, Schedule, lacking}
@@ -17,6 +18,22 @@ bit_on turn total t a lt =
     let same : total - (t + 1) ≡ total - 1 - t = omega arith in
     let before : t + 1 - 1 ≡ t = omega arith in
     sym (rw (same, point_step turn (t + 1) (a / 2 ^ (total - 1 - t)) (omega arith), before, rest, shr_half a (total - 1 - t)) refl)
+
+-- with all its bits the point is that of the address
+pub bits_all : (turn : ℕ → ℕ) (total t a : ℕ) (q : List ℕ) → t ≤ total → total ≤ t → q ≡ point_at turn t (a / 2 ^ (total - t)) → q ≡ point_at turn total a
+bits_all turn total t a q le ge e =
+    let same : t ≡ total = omega arith in
+    let none : total - t ≡ 0 = omega arith in
+    e ∙ rw (none, same, pow-zero, div-one) refl
+
+-- four numbers that are taken out of a list one by one are the list
+pub four_of : (xs : List ℕ) → length xs ≡ 4 → slice_index xs 0 ∷ slice_index xs 1 ∷ slice_index xs 2 ∷ slice_index xs 3 ∷ [] ≡ xs
+four_of [] e = absurd (omega arith)
+four_of (a ∷ []) e = absurd (omega arith)
+four_of (a ∷ (b ∷ [])) e = absurd (omega arith)
+four_of (a ∷ (b ∷ (c ∷ []))) e = absurd (omega arith)
+four_of (a ∷ (b ∷ (c ∷ (d ∷ [])))) e = refl
+four_of (a ∷ (b ∷ (c ∷ (d ∷ (x ∷ xs))))) e = absurd (omega arith)
 
 module _ (n p : ℕ) (turn : ℕ → ℕ) (used : ℕ → ℕ → ℕ) (S : Schedule n p turn used) where
   -- the coordinate whose bit is next lacks one

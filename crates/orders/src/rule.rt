@@ -59,15 +59,16 @@ pub(crate) fn address_by<R: BitRule>(s: &R, x: [u16; 4]) -> u64
     a
 }
 
-// The point of an address: its bits from the top down, each put to its coordinate.
+// The point of an address: its bits from the top down, each put to its coordinate. They are put together in 32 bits: in 16 it takes twice
+// the time.
 pub(crate) fn point_by<R: BitRule>(s: &R, a: u64) -> [u16; 4]
     ensures { result ≡ point_at (R.turn_of s.now) (bits_of (R.space_of s.now)) a }
 {
     let bits = s.bits();
-    let mut q = [0; 4];
+    let mut q = [0u32; 4];
     for t in 0..bits {
         let j = s.turn(t);
-        q[j] = q[j] * 2 + ((a >> (bits - 1 - t)) % 2) as u16;
+        q[j] = q[j] * 2 + ((a >> (bits - 1 - t)) % 2) as u32;
     }
-    q
+    [q[0] as u16, q[1] as u16, q[2] as u16, q[3] as u16]
 }

@@ -7,6 +7,11 @@ ghost use Rattle.std.proofs.Common.{rules};
 use crate::rule::BitRule;
 use crate::space::Space;
 
+// The kinds' numbers in a header.
+const Z_KIND: u8 = 1;
+
+const ROW_KIND: u8 = 2;
+
 // a bit of each coordinate in turn: bit i of coordinate j at place i * n + j
 #[derive(Clone, Copy, PartialEq, Eq, Debug)]
 pub struct ZRule {
@@ -37,7 +42,7 @@ impl BitRule for ZRule {
     }
 
     fn kind(&self) -> u8 {
-        1
+        Z_KIND
     }
 
     fn space(&self) -> Space {
@@ -45,8 +50,14 @@ impl BitRule for ZRule {
     }
 
     fn turn(&self, t: u32) -> usize {
-        let n = self.space.n() as u32;
-        (n - 1 - t % n) as usize
+        // n - 1 - t % n, by known numbers: a division by an unknown one would take most of the time of a point.
+        let turn = match self.space.n() {
+            1 => 0,
+            2 => 1 - t % 2,
+            3 => 2 - t % 3,
+            _ => 3 - t % 4,
+        };
+        turn as usize
     }
 }
 
@@ -68,7 +79,7 @@ impl BitRule for RowRule {
     }
 
     fn kind(&self) -> u8 {
-        2
+        ROW_KIND
     }
 
     fn space(&self) -> Space {
