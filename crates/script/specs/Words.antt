@@ -1,5 +1,5 @@
 -- What a row of words writes.
-use Rattle.std.specs.Prelude.{◌≡◌, ℕ, ◌+◌, ◌-◌, ◌^◌, ◌<◌, ◌⊎◌, List, [], ◌∷◌, ◌++◌, map, filter, length, nat_lt, ◌==◌, take, drop, Some, None, ◌≢◌, slice_index, slice_index_or}
+use Rattle.std.specs.Prelude.{◌≡◌, ℕ, ◌+◌, ◌-◌, ◌^◌, ◌<◌, ◌⊎◌, List, [], ◌∷◌, ◌++◌, map, filter, length, nat_lt, ◌==◌, codes, take, drop, Some, None, ◌≢◌, slice_index, slice_index_or}
 use Rattle.std.specs.Borrow.{Bor}
 use Rattle.std.specs.List.{slice_split}
 use Rattle.orders.specs.declared.point.Point.{Point}
@@ -13,6 +13,10 @@ use Rattle.script.specs.declared.trouble.Trouble.TheVariants.{Refused, Unclear, 
 -- the words of a line: the pieces between its spaces, without the empty ones
 abbrev pub words_of : List ℕ → List (List ℕ)
 words_of line = filter (λ piece. nat_lt 0 (length piece)) (slice_split (λ b. b == 32) line)
+
+-- so spaces before, behind and between words are nothing
+abbrev pub SpacesAreNothing : Type 0
+SpacesAreNothing = words_of (codes "  grant  5 ") ≡ codes "grant" ∷ codes "5" ∷ []
 
 -- the bytes of each word
 abbrev pub texts : List (Bor (List ℕ)) → List (List ℕ)

@@ -2,13 +2,14 @@
 ghost use Rattle.std.specs.Prelude.{◌≡◌, IfOk};
 ghost use Rattle.std.specs.List.{join_with_byte};
 ghost use Rattle.std.specs.String.{string_bytes};
-ghost use Rattle.script.specs.Words.{texts, words_of};
+ghost use Rattle.script.specs.Words.{texts, words_of, SpacesAreNothing};
 
 use std::alloc::{AllocError, Global};
 
 // The words of a line: what stands between spaces.
 pub fn split_words(heap: Global, line: &str) -> Result<Vec<&str>, AllocError>
-    ensures { IfOk result (λ words. texts words.items ≡ words_of line.now) }
+    ensures words { IfOk result (λ words. texts words.items ≡ words_of line.now) }
+    ensures example { SpacesAreNothing }
 {
     line.split(' ')
         .filter(|word| !word.is_empty())

@@ -4,8 +4,8 @@ use Rattle.std.proofs.lemmas.Iterator.Splits.{YieldsList-from_str_split}
 use borrow.Author.Tests.{tests}
 use Rattle.script.proofs.words.split_words.Goals as goal
 
-pub returns : goal.returns
-returns c =
+pub returns-clause-words : goal.returns-clause-words
+returns-clause-words c =
     map_from_collect _ c.collect.ensures.ran
     (YieldsList-from_filter _ (λ piece. nat_lt 0 (length piece)) (YieldsList-from_str_split 32 c.args.line.now (lit< tt) (cc) (cc) (cc)) c.filter.ensures.closure
     (λ x b q k. search (rules, tests)))
