@@ -5,7 +5,6 @@ use Rattle.std.proofs.lemmas.List.{take_all}
 use Rattle.orders.specs.Orders.{Order, Lawful}
 use Rattle.pages.specs.Image.{Image, Blank}
 use Rattle.index.specs.Model.{Call, Answer as IndexAnswer, State, refusal}
-use Rattle.index.specs.Model.Call.{searches}
 use Rattle.index.specs.Model.Answer.{accepted, counted, found}
 use Rattle.index.specs.Steps.{Step}
 use Rattle.index.specs.Histories.{History, Led, event}
@@ -16,7 +15,7 @@ use Rattle.script.specs.declared.call.IndexCall.{IndexCall}
 use Rattle.answers.specs.declared.answer.Answer.{Answer}
 use Rattle.answers.specs.declared.answer.Answer.TheVariants.{Ok, Count, Found, Asked, Page, Denied, Impossible, Unmade, Refused, Unclear}
 use Rattle.answers.specs.Calls.{call_of, Carried}
-use Rattle.answers.specs.Runs.{Chain, Tells, Obeys, Run, RunsLaw}
+use Rattle.answers.specs.Runs.{Chain, Tells, Obeys, RunsLaw}
 use Rattle.answers.specs.Runs.Chain.{none_yet, one_more}
 use Rattle.answers.specs.Runs.Run.{begun, goes_on}
 

@@ -26,6 +26,12 @@ call_of (Withdraw x) = withdraws x.coords
 call_of (Tally x) = tallies x.coords
 call_of (Search asked) = searches asked.query.low.coords asked.query.high.coords asked.start asked.room
 
+-- only these need memory, to lend it
+abbrev pub Lending : IndexCall → Type 0
+Lending (Open records) = Unit {0}
+Lending (Search asked) = Unit {0}
+Lending _ = ⊥
+
 -- an opening is also told by the bytes of the memory, whoever wrote them
 abbrev pub Opens : Order → State → IndexAnswer → State → Call → Type 0
 Opens o s a u (opens records) = Opening o s records a u

@@ -3,7 +3,7 @@ ghost use Rattle.std.specs.Prelude.{◌≡◌, IfOk, OnErr};
 ghost use Rattle.index.specs.Model.{told};
 ghost use Rattle.index.specs.Model.Call.{opens};
 ghost use Rattle.index.specs.View.{view};
-ghost use Rattle.answers.specs.Calls.{call_of, Does, Carried, Accessed};
+ghost use Rattle.answers.specs.Calls.{call_of, Lending, Does, Carried, Accessed};
 
 use crate::answer::Answer;
 use faults::fault::Fault;
@@ -71,7 +71,7 @@ pub fn call<S: PageStore, O: PointOrder>(
     n: u8,
 ) -> Result<Answer, AllocError>
     ensures done { IfOk result (λ answer. Carried (O.PointOrder.meaning index.old.order) n (view S.PageStore.meaning index.old) answer (view S.PageStore.meaning index.new) (call_of call)) }
-    ensures short { OnErr result (index.new ≡ index.old) }
+    ensures short { OnErr result (Lending call × (index.new ≡ index.old)) }
     ensures order { index.new.order ≡ index.old.order }
 {
     Ok(match call {

@@ -1,8 +1,7 @@
-use Rattle.std.proofs.Common.{rules, ◌≡◌, ◌∙◌, refl, subst, ap, arith}
+use Rattle.std.proofs.Common.{rules, ◌∙◌, refl, subst, ap, arith}
 use Rattle.orders.specs.Orders.{Order}
 use Rattle.index.specs.View.{view}
 use Rattle.answers.specs.Calls.{Carried, call_of}
-use Rattle.answers.specs.Runs.{Chain, RunsLaw}
 use Rattle.answers.proofs.Running.{runs_law, chain_begun, chain_further, chain_whole}
 use Rattle.answers.proofs.run.run.Goals as goal
 
