@@ -3,19 +3,17 @@ use Rattle.std.proofs.Common.{◌≡◌, ℕ, Bool, true, false, List, [], ◌�
 use Rattle.std.proofs.lemmas.Bool.{eq-eqb}
 use Rattle.script.specs.Words.{IsOneOf}
 
+-- whether two words are the same
 abbrev pub same : List ℕ → List ℕ → Bool
 same [] [] = true
 same [] (y ∷ ys) = false
 same (x ∷ xs) [] = false
 same (x ∷ xs) (y ∷ ys) = nat_eq x y && same xs ys
 
+-- whether a word is none of those in a row
 abbrev pub same_nowhere : List (List ℕ) → List ℕ → Bool
 same_nowhere [] v = true
 same_nowhere (w ∷ ws) v = not (same v w) && same_nowhere ws v
-
-abbrev pub disjoint : List (List ℕ) → List (List ℕ) → Bool
-disjoint [] ws = true
-disjoint (v ∷ vs) ws = same_nowhere ws v && disjoint vs ws
 
 both : (x y : Bool) → (x && y) ≡ true → (x ≡ true) × (y ≡ true)
 both true y h = (refl, h)
@@ -41,9 +39,3 @@ pub outside : (ws : List (List ℕ)) (a v : List ℕ) → same_nowhere ws a ≡ 
 outside [] a v differ is is-one = is-one
 outside (w ∷ ws) a v differ is (inl is-w) = apart a w v (untrue (same a w) (both (not (same a w)) (same_nowhere ws a) differ).0) is is-w
 outside (w ∷ ws) a v differ is (inr later) = outside ws a v (both (not (same a w)) (same_nowhere ws a) differ).1 is later
-
--- no word is one of two rows that have none in common
-pub disjoint_verbs : (vs ws : List (List ℕ)) (v : List ℕ) → disjoint vs ws ≡ true → IsOneOf vs v → IsOneOf ws v → ⊥
-disjoint_verbs [] ws v differ is-one other = is-one
-disjoint_verbs (a ∷ vs) ws v differ (inl is) other = outside ws a v (both (same_nowhere ws a) (disjoint vs ws) differ).0 is other
-disjoint_verbs (a ∷ vs) ws v differ (inr later) other = disjoint_verbs vs ws v (both (same_nowhere ws a) (disjoint vs ws) differ).1 later other
