@@ -1,7 +1,9 @@
 // Batches of calls.
-use crate::opened::{Terms, open_index, shut_index};
+ghost use Rattle.exports.specs.Batches.{Formats, Lodges, Tallies};
+
+use crate::opened::{open_index, shut_index};
 use index::index::Index;
-use orders::order::ZOrder;
+use orders::order::PointOrder;
 use orders::point::Point;
 use orders::space::QueryBox;
 use pages::store::PageStore;
@@ -34,11 +36,14 @@ pub struct Corners {
 }
 
 // Formats the index.
-pub(crate) fn format<S: PageStore + Drop>(store: S, terms: Terms) -> Batch {
-    let mut index = match shut_index(store, terms) {
-        Ok(index) => index,
-        Err(refusal) => return Batch { done: 0, refusal },
-    };
+pub(crate) fn format<S: PageStore + Drop, O: PointOrder + Drop>(
+    store: S,
+    order: O,
+    charge: u32,
+) -> Batch
+    ensures { Formats (O.PointOrder.meaning order) (S.PageStore.meaning store) charge result }
+{
+    let mut index = shut_index(store, order, charge);
     match index.format() {
         Ok(()) => Batch {
             done: 1,
@@ -52,8 +57,15 @@ pub(crate) fn format<S: PageStore + Drop>(store: S, terms: Terms) -> Batch {
 }
 
 // Opens the index and lodges one event at each point.
-pub(crate) fn lodge_all<S: PageStore + Drop>(store: S, terms: Terms, points: &[[u16; 4]]) -> Batch {
-    let mut index = match open_index(store, terms) {
+pub(crate) fn lodge_all<S: PageStore + Drop, O: PointOrder + Drop>(
+    store: S,
+    order: O,
+    charge: u32,
+    points: &[[u16; 4]],
+) -> Batch
+    ensures { Lodges (O.PointOrder.meaning order) (S.PageStore.meaning store) charge points.now result }
+{
+    let mut index = match open_index(store, order, charge) {
         Ok(index) => index,
         Err(refusal) => return Batch { done: 0, refusal },
     };
@@ -72,13 +84,16 @@ pub(crate) fn lodge_all<S: PageStore + Drop>(store: S, terms: Terms, points: &[[
 }
 
 // Opens the index, tallies each point and puts its count at its place.
-pub(crate) fn tally_all<S: PageStore + Drop>(
+pub(crate) fn tally_all<S: PageStore + Drop, O: PointOrder + Drop>(
     store: S,
-    terms: Terms,
+    order: O,
+    charge: u32,
     points: &[[u16; 4]],
     counts: &mut [u16],
-) -> Batch {
-    let mut index = match open_index(store, terms) {
+) -> Batch
+    ensures { Tallies (O.PointOrder.meaning order) (S.PageStore.meaning store) charge points.now counts.old counts.new result }
+{
+    let mut index = match open_index(store, order, charge) {
         Ok(index) => index,
         Err(refusal) => return Batch { done: 0, refusal },
     };
@@ -99,8 +114,8 @@ pub(crate) fn tally_all<S: PageStore + Drop>(
 }
 
 // The finds and the reads of one search; or the number of its refusal.
-fn search_one<S: PageStore>(
-    index: &mut Index<S, ZOrder>,
+fn search_one<S: PageStore, O: PointOrder>(
+    index: &mut Index<S, O>,
     corners: Corners,
     finds: &mut [Find],
 ) -> Result<Found, u8> {
@@ -114,9 +129,10 @@ fn search_one<S: PageStore>(
 }
 
 // Opens the index and searches each box, from its first address, into the same lent memory.
-pub(crate) fn search_all<S: PageStore + Drop>(
+pub(crate) fn search_all<S: PageStore + Drop, O: PointOrder + Drop>(
     store: S,
-    terms: Terms,
+    order: O,
+    charge: u32,
     boxes: &[Corners],
     finds: &mut [Find],
 ) -> Searched {
@@ -126,7 +142,7 @@ pub(crate) fn search_all<S: PageStore + Drop>(
         finds: 0,
         reads: 0,
     };
-    let mut index = match open_index(store, terms) {
+    let mut index = match open_index(store, order, charge) {
         Ok(index) => index,
         Err(refusal) => return Searched {
             refusal,

@@ -1,13 +1,28 @@
-// The exports.
+// The exports. Each is refused with 1 where there is no such space.
+ghost use Rattle.std.specs.Prelude.{◌≡◌};
+ghost use Rattle.orders.specs.Spaces.{Range};
+ghost use Rattle.pages.specs.Cut.{held};
+ghost use Rattle.exports.specs.Batches.{z_order, Formats, Lodges, Tallies};
+
 use crate::batch::{Batch, Corners, Searched, format, lodge_all, search_all, tally_all};
-use crate::opened::Terms;
+use orders::order::ZOrder;
+use orders::space::Space;
 use pages::memory::MemoryStore;
 use searches::find::Find;
 
 // Formats the index.
 #[unsafe(no_mangle)]
-pub extern "C" fn exports_format(bytes: &mut [u8], n: u8, p: u8, charge: u32) -> Batch {
-    format(MemoryStore::over(bytes), Terms { n, p, charge })
+pub extern "C" fn exports_format(bytes: &mut [u8], n: u8, p: u8, charge: u32) -> Batch
+    ensures space { (Range n p → ⊥) → result ≡ record { done = 0; refusal = 1 } }
+    ensures formats { Range n p → Formats (z_order n p) (held bytes.old 0) charge result }
+{
+    match Space::new(n, p) {
+        Ok(space) => format(MemoryStore::over(bytes), ZOrder::over(space), charge),
+        Err(refusal) => Batch {
+            done: 0,
+            refusal: refusal.number(),
+        },
+    }
 }
 
 // Opens the index and lodges one event at each point, up to the first refusal.
@@ -18,8 +33,22 @@ pub extern "C" fn exports_lodge(
     p: u8,
     charge: u32,
     points: &[[u16; 4]],
-) -> Batch {
-    lodge_all(MemoryStore::over(bytes), Terms { n, p, charge }, points)
+) -> Batch
+    ensures space { (Range n p → ⊥) → result ≡ record { done = 0; refusal = 1 } }
+    ensures lodges { Range n p → Lodges (z_order n p) (held bytes.old 0) charge points.now result }
+{
+    match Space::new(n, p) {
+        Ok(space) => lodge_all(
+            MemoryStore::over(bytes),
+            ZOrder::over(space),
+            charge,
+            points,
+        ),
+        Err(refusal) => Batch {
+            done: 0,
+            refusal: refusal.number(),
+        },
+    }
 }
 
 // Opens the index and tallies each point, up to the first refusal or the end of the counts.
@@ -31,13 +60,23 @@ pub extern "C" fn exports_tally(
     charge: u32,
     points: &[[u16; 4]],
     counts: &mut [u16],
-) -> Batch {
-    tally_all(
-        MemoryStore::over(bytes),
-        Terms { n, p, charge },
-        points,
-        counts,
-    )
+) -> Batch
+    ensures space { (Range n p → ⊥) → (result ≡ record { done = 0; refusal = 1 }) × (counts.new ≡ counts.old) }
+    ensures tallies { Range n p → Tallies (z_order n p) (held bytes.old 0) charge points.now counts.old counts.new result }
+{
+    match Space::new(n, p) {
+        Ok(space) => tally_all(
+            MemoryStore::over(bytes),
+            ZOrder::over(space),
+            charge,
+            points,
+            counts,
+        ),
+        Err(refusal) => Batch {
+            done: 0,
+            refusal: refusal.number(),
+        },
+    }
 }
 
 // Opens the index and searches each box, up to the first refusal. Each search begins anew in the lent memory.
@@ -50,10 +89,19 @@ pub extern "C" fn exports_search(
     boxes: &[Corners],
     finds: &mut [Find],
 ) -> Searched {
-    search_all(
-        MemoryStore::over(bytes),
-        Terms { n, p, charge },
-        boxes,
-        finds,
-    )
+    match Space::new(n, p) {
+        Ok(space) => search_all(
+            MemoryStore::over(bytes),
+            ZOrder::over(space),
+            charge,
+            boxes,
+            finds,
+        ),
+        Err(refusal) => Searched {
+            done: 0,
+            refusal: refusal.number(),
+            finds: 0,
+            reads: 0,
+        },
+    }
 }

@@ -1,38 +1,35 @@
-// An index in the Z order over a store.
+// An index over a store.
+ghost use Rattle.std.specs.Prelude.{MatchResult};
+ghost use Rattle.exports.specs.Standing.{Stands, Unopened};
+ghost use Rattle.exports.specs.Batches.{granted, opened};
+
 use index::index::Index;
 use layout::visit::Visit;
-use orders::order::ZOrder;
-use orders::space::Space;
+use orders::order::PointOrder;
 use pages::store::PageStore;
 
-// The space of an index, and the charge of its store.
-#[derive(Clone, Copy, PartialEq, Eq, Debug)]
-pub struct Terms {
-    pub n: u8,
-    pub p: u8,
-    pub charge: u32,
+// An index, shut, with this charge.
+pub(crate) fn shut_index<S: PageStore + Drop, O: PointOrder + Drop>(
+    store: S,
+    order: O,
+    charge: u32,
+) -> Index<S, O>
+    ensures { Stands S.PageStore.meaning O.PointOrder.meaning store order (granted charge) result }
+{
+    let mut index = Index::new(store, order);
+    index.grant(charge);
+    index
 }
 
-// An index, shut; or the number of the refusal of its space.
-pub(crate) fn shut_index<S: PageStore + Drop>(
+// An index, open; or the number of the refusal.
+pub(crate) fn open_index<S: PageStore + Drop, O: PointOrder + Drop>(
     store: S,
-    terms: Terms,
-) -> Result<Index<S, ZOrder>, u8> {
-    let space = match Space::new(terms.n, terms.p) {
-        Ok(space) => space,
-        Err(refusal) => return Err(refusal.number()),
-    };
-    let mut index = Index::new(store, ZOrder::over(space));
-    index.grant(terms.charge);
-    Ok(index)
-}
-
-// An index, open.
-pub(crate) fn open_index<S: PageStore + Drop>(
-    store: S,
-    terms: Terms,
-) -> Result<Index<S, ZOrder>, u8> {
-    let mut index = shut_index(store, terms)?;
+    order: O,
+    charge: u32,
+) -> Result<Index<S, O>, u8>
+    ensures { MatchResult result (Stands S.PageStore.meaning O.PointOrder.meaning store order (opened charge)) (Unopened (O.PointOrder.meaning order) (S.PageStore.meaning store) charge) }
+{
+    let mut index = shut_index(store, order, charge);
     let mut work = [Visit::default(); 64];
     match index.open(&mut work) {
         Ok(()) => Ok(index),

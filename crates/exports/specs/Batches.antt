@@ -1,0 +1,62 @@
+-- What a batch of calls does. An index is made, shut, over the lent memory; its charge is granted, it is opened, and the calls of the batch are carried out one
+-- after the other, up to the first that is refused. All that is a history of the index.
+use Rattle.std.specs.Prelude.{◌≡◌, ℕ, ◌≤◌, List, [], ◌∷◌, map, length, take, Some, slice_index}
+use Rattle.std.specs.List.{slice_get}
+use Rattle.pages.specs.Image.{Image}
+use Rattle.orders.specs.Orders.{Order}
+use Rattle.orders.specs.Rules.{z_address, z_point}
+use Rattle.index.specs.Model.{Call, State}
+use Rattle.index.specs.Model.Call.{formats, opens, grants, lodges, tallies}
+use Rattle.index.specs.Model.Answer.{accepted, counted, refused}
+use Rattle.index.specs.Histories.{Event, History, Led, event}
+use Rattle.exports.specs.declared.batch.Batch.{Batch}
+
+-- the Z order of a space
+abbrev pub z_order : ℕ → ℕ → Order
+z_order n p = record { kind = 1; n = n; p = p; address = z_address n p; point = z_point n p }
+
+-- the charge was granted
+abbrev pub granted : ℕ → History
+granted charge = event (grants charge) accepted ∷ []
+
+-- and the index opened
+abbrev pub opened : ℕ → History
+opened charge = event (opens 64) accepted ∷ granted charge
+
+-- a history that goes on by these events, the first of them first
+abbrev pub onward : List Event → History → History
+onward [] h = h
+onward (e ∷ es) h = onward es (e ∷ h)
+
+-- How a batch of these calls ends, of which these events came to pass: all calls were carried out, told as refusal 0; or the opening or the next call was refused
+-- with that number.
+pub data Ended (o : Order) (m : Image) (charge : ℕ) (calls : List Call) (events : List Event) (refusal : ℕ) : Type 0 where
+  whole : {s : State} → refusal ≡ 0 → length events ≡ length calls → Led o m (onward events (opened charge)) s → Ended o m charge calls events refusal
+  unopened : {s : State} {values : List ℕ} → events ≡ [] → Led o m (event (opens 64) (refused refusal values) ∷ granted charge) s → Ended o m charge calls events refusal
+  broken : {s : State} {call : Call} {values : List ℕ} → slice_get calls (length events) ≡ Some call → Led o m (event call (refused refusal values) ∷ onward events (opened charge)) s
+      → Ended o m charge calls events refusal
+
+-- a format on its own, without an opening
+pub data Formats (o : Order) (m : Image) (charge : ℕ) (b : Batch) : Type 0 where
+  formatted : {s : State} → b ≡ record { done = 1; refusal = 0 } → Led o m (event formats accepted ∷ granted charge) s → Formats o m charge b
+  unformatted : {s : State} {values : List ℕ} → b.done ≡ 0 → Led o m (event formats (refused b.refusal values) ∷ granted charge) s → Formats o m charge b
+
+-- an event lodged at each of the first points
+abbrev pub lodging : List ℕ → Event
+lodging x = event (lodges x) accepted
+
+pub record Lodges (o : Order) (m : Image) (charge : ℕ) (points : List (List ℕ)) (b : Batch) : Type 0 where
+  pub few : b.done ≤ length points
+  pub ended : Ended o m charge (map lodges points) (map lodging (take b.done points)) b.refusal
+
+-- a count told of each of the first points, at its place
+abbrev pub tallied : List (List ℕ) → List ℕ → List Event
+tallied [] ns = []
+tallied (x ∷ xs) [] = []
+tallied (x ∷ xs) (n ∷ ns) = event (tallies x) (counted n) ∷ tallied xs ns
+
+pub record Tallies (o : Order) (m : Image) (charge : ℕ) (points : List (List ℕ)) (before after : List ℕ) (b : Batch) : Type 0 where
+  pub few : (b.done ≤ length points) × (b.done ≤ length after)
+  pub ended : Ended o m charge (map tallies (take (length before) points)) (tallied (take b.done points) after) b.refusal
+  -- the places past those counts keep what they held
+  pub rest : (j : ℕ) → b.done ≤ j → slice_index after j ≡ slice_index before j
