@@ -4,33 +4,17 @@ use Rattle.std.proofs.Math.Seq.{take-suc}
 use Rattle.std.proofs.lemmas.List.{take_all}
 use Rattle.orders.specs.Orders.{Order, Lawful}
 use Rattle.pages.specs.Image.{Image, Blank}
-use Rattle.index.specs.Model.{Call, Answer as IndexAnswer, State, refusal}
-use Rattle.index.specs.Model.Answer.{accepted, counted, found}
+use Rattle.index.specs.Model.{Call, Answer as IndexAnswer, State}
 use Rattle.index.specs.Steps.{Step}
 use Rattle.index.specs.Histories.{History, Led, event}
 use Rattle.index.specs.Histories.Led.{goes_on as leads_on}
 use Rattle.index.proofs.LawWhole.{run_law}
-use Rattle.searches.specs.Finds.{ending_of}
 use Rattle.script.specs.declared.call.IndexCall.{IndexCall}
 use Rattle.answers.specs.declared.answer.Answer.{Answer}
-use Rattle.answers.specs.declared.answer.Answer.TheVariants.{Ok, Count, Found, Asked, Page, Denied, Impossible, Unmade, Refused, Unclear}
 use Rattle.answers.specs.Calls.{call_of, Carried}
-use Rattle.answers.specs.Runs.{Chain, Tells, Obeys, RunsLaw}
+use Rattle.answers.specs.Runs.{Chain, Obeys, RunsLaw}
 use Rattle.answers.specs.Runs.Chain.{none_yet, one_more}
 use Rattle.answers.specs.Runs.Run.{begun, goes_on}
-
--- what a call answered, told by its answer
-told_step : (o : Order) (n : ℕ) (s u : State) (answer : Answer) (call : Call) → Carried o n s answer u call → (a : IndexAnswer) × Tells n answer a × Step o s a u call
-told_step o n s u Ok call c = (accepted, refl, c.0)
-told_step o n s u (Count k) call c = (counted k, refl, c.0)
-told_step o n s u (Found r finds m) call c = (found finds.items r.reads (ending_of r.ending), (c.0, c.1, refl), c.2.0)
-told_step o n s u (Refused f) call c = (refusal f, refl, c.0)
-told_step o n s u (Asked q m) call c = absurd c
-told_step o n s u (Page bytes) call c = absurd c
-told_step o n s u (Denied f) call c = absurd c
-told_step o n s u (Impossible f) call c = absurd c
-told_step o n s u (Unmade f) call c = absurd c
-told_step o n s u (Unclear r) call c = absurd c
 
 obeys : (o : Order) → Lawful o → (memory : Image) → Blank memory → (h : History) (s u : State) (call : Call) (a : IndexAnswer) → Led o memory h s → Step o s a u call → Obeys o h s u call a
 obeys o law memory b h s u call a led step lo hi room got reads ending is e =
@@ -40,8 +24,7 @@ pub runs_law : (o : Order) → Lawful o → (n : ℕ) (s u : State) (calls : Lis
 runs_law o law n s u calls answers none_yet memory b h led = (h, begun, led)
 runs_law o law n s u calls answers (one_more cs bs t v call answer chain carried) memory b h led =
     let r = runs_law o law n s t cs bs chain memory b h led in
-    let w = told_step o n t v answer (call_of call) carried in
-    (event (call_of call) w.0 ∷ r.0, goes_on cs bs r.0 t v call answer w.0 r.1 w.2 w.1 (obeys o law memory b r.0 t v (call_of call) w.0 r.2 w.2), leads_on r.2 w.2)
+    (event (call_of call) carried.0 ∷ r.0, goes_on cs bs r.0 t v call answer carried.0 r.1 carried.2.0 carried.1 (obeys o law memory b r.0 t v (call_of call) carried.0 r.2 carried.2.0), leads_on r.2 carried.2.0)
 
 -- The chain of a loop over the calls.
 pub chain_begun : (o : Order) (n : ℕ) (s : State) (calls : List IndexCall) (answers : List Answer) → answers ≡ [] → Chain o n s (take 0 calls) answers s

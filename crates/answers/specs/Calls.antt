@@ -40,13 +40,17 @@ Opens o s a u _ = Unit {0}
 abbrev pub Does : Order → State → IndexAnswer → State → Call → Type 0
 Does o s a u call = Step o s a u call × Opens o s a u call
 
--- From the state s to the state u the call is carried out, and the answer tells what the index answered, in a space of n coordinates.
+-- what the index answered, as an answer tells it, in a space of n coordinates
+abbrev pub Tells : ℕ → Answer → IndexAnswer → Type 0
+Tells n Ok a = a ≡ accepted
+Tells n (Count k) a = a ≡ counted k
+Tells n (Found r finds m) a = (m ≡ n) × (r.count ≡ length finds.items) × (a ≡ found finds.items r.reads (ending_of r.ending))
+Tells n (Refused f) a = a ≡ refusal f
+Tells n _ a = ⊥
+
+-- From the state s to the state u the call is carried out, and the answer tells what the index answered.
 abbrev pub Carried : Order → ℕ → State → Answer → State → Call → Type 0
-Carried o n s Ok u call = Does o s accepted u call
-Carried o n s (Count k) u call = Does o s (counted k) u call
-Carried o n s (Found r finds m) u call = (m ≡ n) × (r.count ≡ length finds.items) × Does o s (found finds.items r.reads (ending_of r.ending)) u call
-Carried o n s (Refused f) u call = Does o s (refusal f) u call
-Carried o n s _ u call = ⊥
+Carried o n s answer u call = (a : IndexAnswer) × Tells n answer a × Does o s a u call
 
 -- An access to the store, from the meaning m to the meaning m', and its answer. A write fills the page; the lent page of a read is of no matter.
 abbrev pub Accessed : Image → Access → Answer → Image → Type 0

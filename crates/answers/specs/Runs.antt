@@ -1,34 +1,24 @@
 -- Runs: calls carried out one after another, each on what the last one left; and the law over them.
-use Rattle.std.specs.Prelude.{◌≡◌, ℕ, List, [], ◌∷◌, ◌++◌, length}
+use Rattle.std.specs.Prelude.{◌≡◌, ℕ, List, [], ◌∷◌, ◌++◌}
 use Rattle.pages.specs.Image.{Image, Blank}
 use Rattle.orders.specs.Orders.{Order}
 use Rattle.searches.specs.declared.find.Find.{Find}
-use Rattle.searches.specs.Finds.{ending_of}
 use Rattle.tree.specs.SearchRuns.{Ending}
-use Rattle.index.specs.Model.{Call, Answer as IndexAnswer, State, refusal}
+use Rattle.index.specs.Model.{Call, Answer as IndexAnswer, State}
 use Rattle.index.specs.Model.Call.{searches}
-use Rattle.index.specs.Model.Answer.{accepted, counted, found}
+use Rattle.index.specs.Model.Answer.{found}
 use Rattle.index.specs.Histories.{History, Led, event}
 use Rattle.index.specs.Steps.{Step}
 use Rattle.index.specs.Law.{Law}
 use Rattle.script.specs.declared.call.IndexCall.{IndexCall}
 use Rattle.answers.specs.declared.answer.Answer.{Answer}
-use Rattle.answers.specs.declared.answer.Answer.TheVariants.{Ok, Count, Found, Refused}
-use Rattle.answers.specs.Calls.{call_of, Carried}
+use Rattle.answers.specs.Calls.{call_of, Tells, Carried}
 
 -- From the state s to the state u the calls are carried out, with these answers.
 pub data Chain (o : Order) (n : ℕ) (s : State) : List IndexCall → List Answer → State → Type 0 where
   none_yet : Chain o n s [] [] s
   one_more : (calls : List IndexCall) (answers : List Answer) (t u : State) (call : IndexCall) (answer : Answer) → Chain o n s calls answers t
       → Carried o n t answer u (call_of call) → Chain o n s (calls ++ call ∷ []) (answers ++ answer ∷ []) u
-
--- what the index answered, as an answer tells it
-abbrev pub Tells : ℕ → Answer → IndexAnswer → Type 0
-Tells n Ok a = a ≡ accepted
-Tells n (Count k) a = a ≡ counted k
-Tells n (Found r finds m) a = (m ≡ n) × (r.count ≡ length finds.items) × (a ≡ found finds.items r.reads (ending_of r.ending))
-Tells n (Refused f) a = a ≡ refusal f
-Tells n _ a = ⊥
 
 -- a call, and its answer, after the history h, from the state s to the state u: an accepted search from address 0 obeys the law
 abbrev pub Obeys : Order → History → State → State → Call → IndexAnswer → Type 0
