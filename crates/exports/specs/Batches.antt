@@ -1,15 +1,21 @@
 -- What a batch of calls does. An index is made, shut, over the lent memory; its charge is granted, it is opened, and the calls of the batch are carried out one
 -- after the other, up to the first that is refused. All that is a history of the index.
-use Rattle.std.specs.Prelude.{◌≡◌, ℕ, ◌≤◌, List, [], ◌∷◌, map, length, take, Some, slice_index}
+use Rattle.std.specs.Prelude.{◌≡◌, ℕ, ◌+◌, ◌≤◌, ◌⊎◌, min, List, [], ◌∷◌, ◌++◌, map, length, take, Some, slice_index}
 use Rattle.std.specs.List.{slice_get}
 use Rattle.pages.specs.Image.{Image}
 use Rattle.orders.specs.Orders.{Order}
 use Rattle.orders.specs.Rules.{z_address, z_point}
 use Rattle.index.specs.Model.{Call, State}
-use Rattle.index.specs.Model.Call.{formats, opens, grants, lodges, tallies}
-use Rattle.index.specs.Model.Answer.{accepted, counted, refused}
+use Rattle.index.specs.Model.Call.{formats, opens, grants, lodges, tallies, searches}
+use Rattle.index.specs.Model.Answer.{accepted, counted, found, refused}
 use Rattle.index.specs.Histories.{Event, History, Led, event}
+use Rattle.orders.specs.Spaces.{Ordered}
+use Rattle.searches.specs.declared.find.Ending.{Ending}
+use Rattle.searches.specs.Finds.{ending_of}
+use Rattle.searches.specs.declared.find.Find.{Find}
 use Rattle.exports.specs.declared.batch.Batch.{Batch}
+use Rattle.exports.specs.declared.batch.Corners.{Corners}
+use Rattle.exports.specs.declared.batch.Searched.{Searched}
 
 -- the Z order of a space
 abbrev pub z_order : ℕ → ℕ → Order
@@ -60,3 +66,33 @@ pub record Tallies (o : Order) (m : Image) (charge : ℕ) (points : List (List �
   pub ended : Ended o m charge (map tallies (take (length before) points)) (tallied (take b.done points) after) b.refusal
   -- the places past those counts keep what they held
   pub rest : (j : ℕ) → b.done ≤ j → slice_index after j ≡ slice_index before j
+
+-- a number as far as it is told
+abbrev pub capped : ℕ → ℕ
+capped n = min n 18446744073709551615
+
+-- the search of a box, from its first address, with room for so many finds
+abbrev pub seeking : ℕ → Corners → Call
+seeking room c = searches c.low c.high 0 room
+
+-- searches of these boxes came to these events, with so many finds and so many page reads in all
+pub data Sought (room : ℕ) : List Corners → List Event → ℕ → ℕ → Type 0 where
+  none : Sought room [] [] 0 0
+  more : {boxes boxes' : List Corners} {events events' : List Event} {finds reads finds' reads' : ℕ} → Sought room boxes events finds reads
+      → (c : Corners) (xs : List Find) (k : ℕ) (e : Ending) → boxes' ≡ boxes ++ c ∷ [] → events' ≡ events ++ event (seeking room c) (found xs k (ending_of e)) ∷ []
+      → finds' ≡ capped (finds + length xs) → reads' ≡ capped (reads + k) → Sought room boxes' events' finds' reads'
+
+-- the next box has a low end above its high end, so it is none
+pub record NoBox (o : Order) (m : Image) (charge : ℕ) (boxes : List Corners) (events : List Event) (refusal : ℕ) : Type 0 where
+  pub number : refusal ≡ 4
+  pub box : Corners
+  pub next : slice_get boxes (length events) ≡ Some box
+  pub unordered : Ordered box.low box.high → ⊥
+  pub left : State
+  pub led : Led o m (onward events (opened charge)) left
+
+pub record Searches (o : Order) (m : Image) (charge : ℕ) (boxes : List Corners) (room : ℕ) (b : Searched) : Type 0 where
+  pub few : b.done ≤ length boxes
+  pub events : List Event
+  pub sought : Sought room (take b.done boxes) events b.finds b.reads
+  pub ended : Ended o m charge (map (seeking room) boxes) events b.refusal ⊎ NoBox o m charge boxes events b.refusal

@@ -1,5 +1,7 @@
 // Batches of calls.
-ghost use Rattle.exports.specs.Batches.{Formats, Lodges, Tallies};
+ghost use Rattle.std.specs.Prelude.{◌≡◌, length};
+ghost use Rattle.exports.specs.Batches.{Formats, Lodges, Searches, Tallies};
+ghost use Rattle.exports.specs.Standing.{Seeks};
 
 use crate::opened::{open_index, shut_index};
 use index::index::Index;
@@ -118,7 +120,10 @@ fn search_one<S: PageStore, O: PointOrder>(
     index: &mut Index<S, O>,
     corners: Corners,
     finds: &mut [Find],
-) -> Result<Found, u8> {
+) -> Result<Found, u8>
+    ensures seeks { Seeks S.PageStore.meaning O.PointOrder.meaning index.old corners finds.old result index.new finds.new }
+    ensures order { index.new.order ≡ index.old.order }
+{
     let Corners { low, high } = corners;
     match QueryBox::new(Point { coords: low }, Point { coords: high }) {
         Ok(query) => index
@@ -135,7 +140,9 @@ pub(crate) fn search_all<S: PageStore + Drop, O: PointOrder + Drop>(
     charge: u32,
     boxes: &[Corners],
     finds: &mut [Find],
-) -> Searched {
+) -> Searched
+    ensures { Searches (O.PointOrder.meaning order) (S.PageStore.meaning store) charge boxes.now (length finds.old) result }
+{
     let mut searched = Searched {
         done: 0,
         refusal: 0,
@@ -149,10 +156,10 @@ pub(crate) fn search_all<S: PageStore + Drop, O: PointOrder + Drop>(
             ..searched
         },
     };
-    for corners in boxes {
+    for (i, corners) in boxes.iter().enumerate() {
         match search_one(&mut index, *corners, finds) {
             Ok(found) => {
-                searched.done = searched.done.saturating_add(1);
+                searched.done = i + 1;
                 searched.finds = searched.finds.saturating_add(found.count);
                 searched.reads = searched.reads.saturating_add(found.reads as u64);
             }

@@ -1,8 +1,8 @@
 // The exports. Each is refused with 1 where there is no such space.
-ghost use Rattle.std.specs.Prelude.{◌≡◌};
+ghost use Rattle.std.specs.Prelude.{◌≡◌, length};
 ghost use Rattle.orders.specs.Spaces.{Range};
 ghost use Rattle.pages.specs.Cut.{held};
-ghost use Rattle.exports.specs.Batches.{z_order, Formats, Lodges, Tallies};
+ghost use Rattle.exports.specs.Batches.{z_order, Formats, Lodges, Searches, Tallies};
 
 use crate::batch::{Batch, Corners, Searched, format, lodge_all, search_all, tally_all};
 use orders::order::ZOrder;
@@ -88,7 +88,10 @@ pub extern "C" fn exports_search(
     charge: u32,
     boxes: &[Corners],
     finds: &mut [Find],
-) -> Searched {
+) -> Searched
+    ensures space { (Range n p → ⊥) → (result ≡ record { done = 0; refusal = 1; finds = 0; reads = 0 }) × (finds.new ≡ finds.old) }
+    ensures searches { Range n p → Searches (z_order n p) (held bytes.old 0) charge boxes.now (length finds.old) result }
+{
     match Space::new(n, p) {
         Ok(space) => search_all(
             MemoryStore::over(bytes),

@@ -1,4 +1,4 @@
-use Rattle.std.proofs.Common.{◌≡◌, map, take}
+use Rattle.std.proofs.Common.{map, take}
 use Rattle.exports.specs.Batches.{lodging, onward, opened}
 use Rattle.exports.specs.Standing.{Stands}
 use Rattle.exports.proofs.batch.lodge_all.Given as goal

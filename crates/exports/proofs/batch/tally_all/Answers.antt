@@ -24,8 +24,7 @@ loop-i-preserved g c =
     let many = c.min-many.ensures in
     let same = c.loop-i.invariant.1 in
     let n = c.in-Ok-tally.count in
-    let more = tallied_more c.args.points.now c.loop-i.counts c.loop-i.i n (omega (arith, many, c.loop-i-test.true)) (omega (arith, many, same, c.loop-i-test.true)) in
-    (
+    let more = tallied_more c.args.points.now c.loop-i.counts c.loop-i.i n (omega (arith, many, c.loop-i-test.true)) (omega (arith, many, same, c.loop-i-test.true)) in (
       rw (more, onward_more _ _ (opened c.args.charge))
           (further g.S.PageStore.meaning g.O.PointOrder.meaning c.args.store c.args.order c.loop-i.index c.tally.new.self _ _ _ c.loop-i.invariant.0 c.in-Ok-tally.ensures.step c.in-Ok-tally.ensures.order),
       length-set _ _ _ ∙ same,
