@@ -70,16 +70,16 @@ fn ratio(ours: &Row, other: Option<&Row>) -> String {
     other.map_or("".into(), |row| format!("{:.2}", ours.nanoseconds() / row.nanoseconds()))
 }
 
-/// The others' rows of the same operation, which must have the same answer and as many page accesses.
-fn beside<'a>(ours: &Row, others: [&'a [Row]; 3]) -> [Option<&'a Row>; 3] {
-    others.map(|rows| {
-        let row = rows.iter().find(|row| row.operation == ours.operation)?;
+/// The others' rows of the same operation. All programs must give the same answer, and make the same page accesses where they make any.
+fn beside<'a>(ours: &'a Row, others: [&'a [Row]; 3]) -> [Option<&'a Row>; 3] {
+    let rows = others.map(|rows| rows.iter().find(|row| row.operation == ours.operation));
+    let mut accesses = ours.accesses;
+    for row in rows.iter().flatten() {
         assert_eq!(ours.answer, row.answer, "{}: two programs answer differently", ours.operation);
-        if let (Some(a), Some(b)) = (ours.accesses, row.accesses) {
-            assert_eq!(a, b, "{}: two programs make different page accesses", ours.operation);
-        }
-        Some(row)
-    })
+        accesses = accesses.or(row.accesses);
+        assert!(row.accesses.is_none() || row.accesses == accesses, "{}: two programs make different page accesses", ours.operation);
+    }
+    rows
 }
 
 fn print_row(ours: &Row, others: [Option<&Row>; 3]) {

@@ -196,7 +196,15 @@ impl Tree {
     }
 
     /// Walks a page whose region ends at `end`; `next` is the next address of the box.
-    fn walk(&mut self, level: u8, page: u16, end: u64, corners: &Corners, next: Option<u64>, finds: &mut Vec<(u64, Point, u16)>) -> Option<u64> {
+    fn walk(
+        &mut self,
+        level: u8,
+        page: u16,
+        end: u64,
+        corners: &Corners,
+        next: Option<u64>,
+        finds: &mut Vec<(u64, Point, u16)>,
+    ) -> Option<u64> {
         if next.is_none_or(|a| a > end) {
             return next;
         }
