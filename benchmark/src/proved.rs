@@ -30,7 +30,8 @@ struct Find {
 
 unsafe extern "C" {
     fn exports_format(bytes: *mut u8, len: usize, n: u8, p: u8, charge: u32) -> Batch;
-    fn exports_lodge(bytes: *mut u8, len: usize, n: u8, p: u8, charge: u32, points: *const Point, many: usize) -> Batch;
+    fn exports_lodge(bytes: *mut u8, len: usize, n: u8, p: u8, charge: u32, points: *const Point, many: usize)
+    -> Batch;
     fn exports_tally(
         bytes: *mut u8,
         len: usize,
