@@ -70,22 +70,30 @@ fn ratio(ours: &Row, other: Option<&Row>) -> String {
     other.map_or("".into(), |row| format!("{:.2}", ours.nanoseconds() / row.nanoseconds()))
 }
 
-/// The others' rows of the same operation, which must have the same answer and as many page accesses.
-fn beside<'a>(ours: &Row, others: [&'a [Row]; 3]) -> [Option<&'a Row>; 3] {
-    others.map(|rows| {
-        let row = rows.iter().find(|row| row.operation == ours.operation)?;
+/// The others' rows of the same operation. All programs must give the same answer, and make the same page accesses where they make any.
+fn beside<'a>(ours: &'a Row, others: [&'a [Row]; 3]) -> [Option<&'a Row>; 3] {
+    let rows = others.map(|rows| rows.iter().find(|row| row.operation == ours.operation));
+    let mut accesses = ours.accesses;
+    for row in rows.iter().flatten() {
         assert_eq!(ours.answer, row.answer, "{}: two programs answer differently", ours.operation);
-        if let (Some(a), Some(b)) = (ours.accesses, row.accesses) {
-            assert_eq!(a, b, "{}: two programs make different page accesses", ours.operation);
-        }
-        Some(row)
-    })
+        accesses = accesses.or(row.accesses);
+        assert!(
+            row.accesses.is_none() || row.accesses == accesses,
+            "{}: two programs make different page accesses",
+            ours.operation
+        );
+    }
+    rows
 }
 
 fn print_row(ours: &Row, others: [Option<&Row>; 3]) {
     let [second, tree, map] = others;
     let accesses = ours.accesses_per_call().or(second.and_then(Row::accesses_per_call));
-    let finds = if ours.operation.starts_with("search") { format!("{:.1}", ours.answer as f64 / ours.calls as f64) } else { "".into() };
+    let finds = if ours.operation.starts_with("search") {
+        format!("{:.1}", ours.answer as f64 / ours.calls as f64)
+    } else {
+        "".into()
+    };
     println!(
         "| {} | {} | {finds} | {} | {} | {} | {} | {} | {} | {} |",
         ours.operation,
@@ -109,8 +117,13 @@ fn compare(work: &Work, rounds: usize) {
         round::<PlainMap>(work, &mut map);
     }
     let Space { n, p } = work.space;
-    println!("n = {n}, p = {p}; {} events lodged in 1,024 pages; nanoseconds a call, the median of {rounds} rounds\n", work.events.len());
-    println!("| call | page accesses | finds | index | second program | plain tree | map | index / second | index / tree | index / map |");
+    println!(
+        "n = {n}, p = {p}; {} events lodged in 1,024 pages; nanoseconds a call, the median of {rounds} rounds\n",
+        work.events.len()
+    );
+    println!(
+        "| call | page accesses | finds | index | second program | plain tree | map | index / second | index / tree | index / map |"
+    );
     println!("|---|---|---|---|---|---|---|---|---|---|");
     for row in &ours {
         print_row(row, beside(row, [&second, &tree, &map]));

@@ -30,12 +30,29 @@ struct Find {
 
 unsafe extern "C" {
     fn exports_format(bytes: *mut u8, len: usize, n: u8, p: u8, charge: u32) -> Batch;
-    fn exports_lodge(bytes: *mut u8, len: usize, n: u8, p: u8, charge: u32, points: *const Point, many: usize) -> Batch;
+    fn exports_lodge(bytes: *mut u8, len: usize, n: u8, p: u8, charge: u32, points: *const Point, many: usize)
+    -> Batch;
     fn exports_tally(
-        bytes: *mut u8, len: usize, n: u8, p: u8, charge: u32, points: *const Point, many: usize, counts: *mut u16, room: usize,
+        bytes: *mut u8,
+        len: usize,
+        n: u8,
+        p: u8,
+        charge: u32,
+        points: *const Point,
+        many: usize,
+        counts: *mut u16,
+        room: usize,
     ) -> Batch;
     fn exports_search(
-        bytes: *mut u8, len: usize, n: u8, p: u8, charge: u32, boxes: *const Corners, many: usize, finds: *mut Find, room: usize,
+        bytes: *mut u8,
+        len: usize,
+        n: u8,
+        p: u8,
+        charge: u32,
+        boxes: *const Corners,
+        many: usize,
+        finds: *mut Find,
+        room: usize,
     ) -> Searched;
 }
 
@@ -62,7 +79,15 @@ impl Proved {
         // SAFETY: as above
         unsafe {
             exports_tally(
-                self.bytes.as_mut_ptr(), self.bytes.len(), n, p, CHARGE, points.as_ptr(), points.len(), counts.as_mut_ptr(), counts.len(),
+                self.bytes.as_mut_ptr(),
+                self.bytes.len(),
+                n,
+                p,
+                CHARGE,
+                points.as_ptr(),
+                points.len(),
+                counts.as_mut_ptr(),
+                counts.len(),
             )
         }
     }
@@ -73,7 +98,15 @@ impl Proved {
         // SAFETY: as above; any bytes are a `Find`
         unsafe {
             exports_search(
-                self.bytes.as_mut_ptr(), self.bytes.len(), n, p, CHARGE, boxes.as_ptr(), boxes.len(), finds.as_mut_ptr(), finds.len(),
+                self.bytes.as_mut_ptr(),
+                self.bytes.len(),
+                n,
+                p,
+                CHARGE,
+                boxes.as_ptr(),
+                boxes.len(),
+                finds.as_mut_ptr(),
+                finds.len(),
             )
         }
     }

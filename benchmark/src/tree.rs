@@ -125,7 +125,15 @@ impl Tree {
     }
 
     /// Copies the path from a page down. `need` is how many pages the copy takes in any case, and how many more if this page splits.
-    fn copy(&mut self, level: u8, page: u16, a: u64, need: (u16, u16), used: &mut usize, path: &mut Vec<u16>) -> Option<Placed> {
+    fn copy(
+        &mut self,
+        level: u8,
+        page: u16,
+        a: u64,
+        need: (u16, u16),
+        used: &mut usize,
+        path: &mut Vec<u16>,
+    ) -> Option<Placed> {
         let mut list = entries(&self.cell.read(page));
         if level == 1 {
             match list.iter().position(|e| e.0 >= a) {
@@ -196,7 +204,15 @@ impl Tree {
     }
 
     /// Walks a page whose region ends at `end`; `next` is the next address of the box.
-    fn walk(&mut self, level: u8, page: u16, end: u64, corners: &Corners, next: Option<u64>, finds: &mut Vec<(u64, Point, u16)>) -> Option<u64> {
+    fn walk(
+        &mut self,
+        level: u8,
+        page: u16,
+        end: u64,
+        corners: &Corners,
+        next: Option<u64>,
+        finds: &mut Vec<(u64, Point, u16)>,
+    ) -> Option<u64> {
         if next.is_none_or(|a| a > end) {
             return next;
         }
