@@ -1,4 +1,4 @@
-//! An index beside its meaning, a map from address to count. After every call the two are compared: the answer, the pages,
+//! An index beside its meaning, a map from address to count. After every call that accesses pages the two are compared: the answer, the pages,
 //! the free list and the charge. A disagreement panics.
 
 use std::collections::BTreeMap;

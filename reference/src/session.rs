@@ -151,9 +151,10 @@ impl Session {
 
     /// Pages of a memory store, or slots of a slot store, that are not all zeros.
     fn dump(&self, lent: &[u8]) -> String {
-        let (name, size) = if self.slots { ("slot", SLOT) } else { ("page", PAGE) };
+        // A memory store has 65,535 pages at most; of slots all are lent.
+        let (name, size, most) = if self.slots { ("slot", SLOT, usize::MAX) } else { ("page", PAGE, 65_535) };
         let mut text = String::new();
-        for (i, bytes) in lent.chunks_exact(size).take(65_535).enumerate() {
+        for (i, bytes) in lent.chunks_exact(size).take(most).enumerate() {
             if bytes.iter().any(|&b| b != 0) {
                 text += &format!("{name} {}: {}\n", i + 1, hex(bytes));
             }

@@ -37,8 +37,9 @@ abbrev pub Opens : Order → State → IndexAnswer → State → Call → Type 0
 Opens o s a u (opens records) = Opening o s records a u
 Opens o s a u _ = Unit {0}
 
-abbrev pub Does : Order → State → IndexAnswer → State → Call → Type 0
-Does o s a u call = Step o s a u call × Opens o s a u call
+-- the call's step, and of an opening that as well
+abbrev pub Steps : Order → State → IndexAnswer → State → Call → Type 0
+Steps o s a u call = Step o s a u call × Opens o s a u call
 
 -- what the index answered, as an answer tells it, in a space of n coordinates
 abbrev pub Tells : ℕ → Answer → IndexAnswer → Type 0
@@ -50,7 +51,7 @@ Tells n _ a = ⊥
 
 -- From the state s to the state u the call is carried out, and the answer tells what the index answered.
 abbrev pub Carried : Order → ℕ → State → Answer → State → Call → Type 0
-Carried o n s answer u call = (a : IndexAnswer) × Tells n answer a × Does o s a u call
+Carried o n s answer u call = (a : IndexAnswer) × Tells n answer a × Steps o s a u call
 
 -- An access to the store, from the meaning m to the meaning m', and its answer. A write fills the page; the lent page of a read is of no matter.
 abbrev pub Accessed : Image → Access → Answer → Image → Type 0

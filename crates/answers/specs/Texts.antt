@@ -28,12 +28,13 @@ joined [] = []
 joined (a ∷ []) = a
 joined (a ∷ b ∷ rest) = a ++ joined (b ∷ rest)
 
--- ---- a search
+-- ---- a point
 
--- numbers with commas between them
+-- a number behind a comma
 abbrev pub after_comma : ℕ → List ℕ
 after_comma c = codes ", " ++ decimal c
 
+-- numbers with commas between them
 abbrev pub with_commas : List ℕ → List ℕ
 with_commas [] = []
 with_commas (c ∷ rest) = decimal c ++ flat_map after_comma rest
@@ -41,6 +42,8 @@ with_commas (c ∷ rest) = decimal c ++ flat_map after_comma rest
 -- the first n coordinates of a point, as (C0, C1, ..)
 abbrev pub point_text : ℕ → Point → List ℕ
 point_text n x = joined (codes "(" ∷ with_commas (take n x.coords) ∷ codes ")" ∷ [])
+
+-- ---- a search
 
 abbrev pub ending_text : Ending → List ℕ
 ending_text Done = codes "done"

@@ -39,7 +39,7 @@ pub enum Answer {
 
 impl Answer {
     // The answer to what is done, or refused.
-    pub fn done<E, F: FnOnce(E) -> Answer>(carried: Result<(), E>, refused: F) -> Answer
+    pub(crate) fn done<E, F: FnOnce(E) -> Answer>(carried: Result<(), E>, refused: F) -> Answer
         requires { F.IsAlwaysCallable refused }
         ensures { MatchResult carried (λ _. result ≡ Answer.Ok) (λ e. F.post refused e result) }
     {

@@ -3,7 +3,7 @@ ghost use Rattle.std.specs.Prelude.{◌≡◌, IfOk, OnErr};
 ghost use Rattle.index.specs.Model.{told};
 ghost use Rattle.index.specs.Model.Call.{opens};
 ghost use Rattle.index.specs.View.{view};
-ghost use Rattle.answers.specs.Calls.{call_of, Lending, Does, Carried, Accessed};
+ghost use Rattle.answers.specs.Calls.{call_of, Lending, Steps, Carried, Accessed};
 
 use crate::answer::Answer;
 use faults::fault::Fault;
@@ -25,7 +25,7 @@ fn open<S: PageStore, O: PointOrder>(
     index: &mut Index<S, O>,
     records: u32,
 ) -> Result<Result<(), Fault>, AllocError>
-    ensures done { IfOk result (λ r. Does (O.PointOrder.meaning index.old.order) (view S.PageStore.meaning index.old) (told r) (view S.PageStore.meaning index.new) (opens records)) }
+    ensures done { IfOk result (λ r. Steps (O.PointOrder.meaning index.old.order) (view S.PageStore.meaning index.old) (told r) (view S.PageStore.meaning index.new) (opens records)) }
     ensures short { OnErr result (index.new ≡ index.old) }
     ensures order { index.new.order ≡ index.old.order }
 {
@@ -33,7 +33,7 @@ fn open<S: PageStore, O: PointOrder>(
     Ok(index.open(work.as_mut_slice()))
 }
 
-// A tree has no more events than this: ten in each of its 1,024 pages.
+// A tree has no more points with events than this: ten in each of its 1,024 pages.
 const MOST_FINDS: u32 = 10240;
 
 const NO_FIND: Find = Find {

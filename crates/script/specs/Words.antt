@@ -31,7 +31,7 @@ IsOneOf (v ∷ vs) w = (w ≡ v) ⊎ IsOneOf vs w
 abbrev pub NumberAt : List (List ℕ) → ℕ → ℕ → ℕ → Type 0
 NumberAt ws i limit v = NumberIs (slice_index_or ws i []) limit (Some v)
 
--- the words end in the name and its number, behind the words `before`; or in the name and a word they do not end, `before` is all of them, and the
+-- the words end in the name and its number, behind the words `before`; or they do not end in the name and one word: then `before` is all of them, and the
 -- number is the usual one
 abbrev pub EndsIn : List ℕ → ℕ → ℕ → List (List ℕ) → List (List ℕ) → ℕ → Type 0
 EndsIn name usual limit ws before v =

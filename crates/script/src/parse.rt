@@ -1,5 +1,5 @@
-// Numbers, points and boxes, and the lines that ask the order alone. What is refused is written out, and not by `into`, whose step the proofs
-// here do not get past.
+// Numbers, points and boxes, and the lines that ask the order alone. `Trouble::Unclear(..)` is written out where `.into()` would do: the proofs
+// here do not get past that step.
 ghost use Rattle.std.specs.Prelude.{◌≡◌, ℕ, ◌-◌, ◌^◌, ◌⊎◌, Some, None, MatchResult};
 ghost use Rattle.script.specs.Grammar.{QuestionIs, FirstIs};
 ghost use Rattle.script.specs.Numbers.{NumberIs};

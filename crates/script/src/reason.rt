@@ -4,7 +4,7 @@ use std::fmt;
 
 #[derive(Clone, Copy, PartialEq, Eq, Debug)]
 pub enum Reason {
-    // the first word is no command, or the second no kind of it
+    // the first word is no command, or the second no kind of it; or another word stands where `work`, `erased` or `image` should
     Command,
     // too few words or too many
     Words,

@@ -36,7 +36,7 @@ abbrev pub late_layer : Bool → Reason
 late_layer true = out_of_order
 late_layer false = too_many_layers
 
--- why a set-up line comes too late, once no layer more can be put on
+-- why a set-up line comes too late, once no layer more can be put on; `dump` and `save` are answered where they are heard and never come here
 abbrev pub late_line : Bool → Setup → Reason
 late_line called (Order kind n p) = out_of_order
 late_line called (SetMemory pages byte) = out_of_order

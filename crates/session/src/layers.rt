@@ -34,7 +34,10 @@ fn layer_line(
             Ok(ControlFlow::Break(Some(Layer::Turned)))
         }
         Ok(Line::Setup(Setup::Skip(bad))) => {
-            let answer = Answer::done(skip_allowed(bad.as_slice(), size), Answer::Unmade);
+            let answer = skip_allowed(bad.as_slice(), size).map_or_else(
+                Answer::Unmade,
+                |()| Answer::Ok,
+            );
             say(rt, echo.as_str(), answer)?;
             Ok(ControlFlow::Break(Some(Layer::Skip(bad))))
         }

@@ -6,7 +6,8 @@ use std::ops::ControlFlow;
 // What a line does to a part: the part goes on; or it ends, with what the line made, or with nothing where the line belongs to the next part.
 pub type Step<T> = ControlFlow<Option<T>>;
 
-// Goes through the lines of a part; gives what it made, and the lines that are left.
+// Goes through the lines of a part; gives what it made, and the lines that are left: some end of the lines. Which end it is the closure decides, of which no
+// more is said here.
 pub fn part<'s, 't, T: Drop, F: FnMut(&'t str) -> anyhow::Result<Step<T>>>(
     lines: &'s [&'t str],
     mut line_does: F,

@@ -1,5 +1,5 @@
 // What a script has set up beside its store.
-ghost use Rattle.std.specs.Prelude.{◌≡◌};
+ghost use Rattle.std.specs.Prelude.{◌≡◌, None, false, []};
 ghost use Rattle.script.specs.declared.setup.OrderKind.TheVariants.{Z};
 ghost use Rattle.session.specs.SetUp.{Stands};
 
@@ -40,7 +40,9 @@ pub struct Session {
 }
 
 impl Session {
-    pub fn new(heap: Global) -> Session {
+    pub fn new(heap: Global) -> Session
+        ensures { (result.order ≡ None) × (result.called ≡ false) × (result.endings.items ≡ []) }
+    {
         Session {
             order: None,
             called: false,

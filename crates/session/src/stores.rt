@@ -51,7 +51,7 @@ fn make_pages(rt: &HostRuntime, echo: &str, bytes: Vec<u8>) -> anyhow::Result<Me
 
 fn make_slots(rt: &HostRuntime, echo: &str, bytes: Vec<u8>, pages: u16) -> anyhow::Result<Memory> {
     let (slots, _rest) = bytes.as_slice().as_chunks::<SLOT>();
-    let answer = Answer::done(slots_allowed(slots, pages), Answer::Unmade);
+    let answer = slots_allowed(slots, pages).map_or_else(Answer::Unmade, |()| Answer::Ok);
     say(rt, echo, answer)?;
     Ok(Memory {
         bytes,

@@ -24,7 +24,7 @@ pub struct Script {
     pub notes: Vec<String>,
 }
 
-/// The script of a seed, of 30 to 200 lines.
+/// The script of a seed, of 30 lines or more.
 pub fn script(seed: u64) -> Script {
     let mut writer = Writer::new(seed);
     let start = set_up::set_up(&mut writer);
