@@ -21,19 +21,19 @@ use Rattle.orders.specs.Interleaved.{order_of}
 use Rattle.orders.specs.Rules.{z_turn}
 use Rattle.pages.specs.Cut.{held}
 use Rattle.exports.specs.Batches.{onward, z_order}
-use Rattle.exports.specs.Standing.{Stands}
+use Rattle.exports.specs.Standing.{StandsAt}
 
 module _ {S O : Type 0} (meaning : S → Image) (order_of : O → Order) (store : S) (order : O) where
-  pub made : (x : Index S O) → view meaning x ≡ state (meaning store) shut → x.order ≡ order → Stands meaning order_of store order [] x
+  pub made : (x : Index S O) → view meaning x ≡ state (meaning store) shut → x.order ≡ order → StandsAt meaning order_of store order [] x
   made x e o = record { led = subst (Led (order_of order) (meaning store) []) (sym e) begun; same = o }
 
   -- also by a refusal
-  pub led_on : (x : Index S O) (h : History) (a : Answer) (u : State) (call : Call) → Stands meaning order_of store order h x → Step (order_of x.order) (view meaning x) a u call
+  pub led_on : (x : Index S O) (h : History) (a : Answer) (u : State) (call : Call) → StandsAt meaning order_of store order h x → Step (order_of x.order) (view meaning x) a u call
       → Led (order_of order) (meaning store) (event call a ∷ h) u
   led_on x h a u call s t = goes_on s.led (subst (λ (o : Order). Step o (view meaning x) a u call) (ap order_of s.same) t)
 
-  pub further : (x y : Index S O) (h : History) (a : Answer) (call : Call) → Stands meaning order_of store order h x → Step (order_of x.order) (view meaning x) a (view meaning y) call → y.order ≡ x.order
-      → Stands meaning order_of store order (event call a ∷ h) y
+  pub further : (x y : Index S O) (h : History) (a : Answer) (call : Call) → StandsAt meaning order_of store order h x → Step (order_of x.order) (view meaning x) a (view meaning y) call → y.order ≡ x.order
+      → StandsAt meaning order_of store order (event call a ∷ h) y
   further x y h a call s t o = record { led = led_on x h a (view meaning y) call s t; same = o ∙ s.same }
 
 -- one event more at the end
@@ -43,7 +43,7 @@ onward_more (d ∷ es) e h = onward_more es e (d ∷ h)
 
 -- a refusal is told by its number
 pub refused_on : {S O : Type 0} (meaning : S → Image) (order_of : O → Order) (store : S) (order : O) (x : Index S O) (h : History) (f : Fault) (n : ℕ) (u : State) (call : Call) →
-    n ≡ number_of f → Stands meaning order_of store order h x → Step (order_of x.order) (view meaning x) (refusal f) u call → Led (order_of order) (meaning store) (event call (refused n (values_of f)) ∷ h) u
+    n ≡ number_of f → StandsAt meaning order_of store order h x → Step (order_of x.order) (view meaning x) (refusal f) u call → Led (order_of order) (meaning store) (event call (refused n (values_of f)) ∷ h) u
 refused_on meaning order_of store order x h f n u call e s t =
     subst (λ (k : ℕ). Led (order_of order) (meaning store) (event call (refused k (values_of f)) ∷ h) u) (sym e) (led_on meaning order_of store order x h (refusal f) u call s t)
 

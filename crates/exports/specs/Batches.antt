@@ -1,6 +1,6 @@
 -- What a batch of calls does. An index is made, shut, over the lent memory; its charge is granted, it is opened, and the calls of the batch are carried out one
 -- after the other, up to the first that is refused. All that is a history of the index.
-use Rattle.std.specs.Prelude.{◌≡◌, ℕ, ◌+◌, ◌≤◌, ◌⊎◌, min, List, [], ◌∷◌, ◌++◌, map, length, take, Some, slice_index}
+use Rattle.std.specs.Prelude.{◌≡◌, ℕ, ◌+◌, ◌-◌, ◌^◌, ◌≤◌, ◌⊎◌, min, List, [], ◌∷◌, ◌++◌, map, length, take, Some, slice_index}
 use Rattle.std.specs.List.{slice_get}
 use Rattle.pages.specs.Image.{Image}
 use Rattle.orders.specs.Orders.{Order}
@@ -10,7 +10,10 @@ use Rattle.index.specs.Model.Call.{formats, opens, grants, lodges, tallies, sear
 use Rattle.index.specs.Model.Answer.{accepted, counted, found, refused}
 use Rattle.index.specs.Histories.{Event, History, Led, event}
 use Rattle.orders.specs.Spaces.{Ordered}
-use Rattle.searches.specs.declared.find.Ending.{Ending}
+use Rattle.orders.specs.Refusals.{number_of}
+use Rattle.orders.specs.declared.refusal.Refusal.TheVariants.{BoxEnds}
+use Rattle.index.specs.Searched.{LentBack}
+use Rattle.searches.specs.declared.find.Found.{Found}
 use Rattle.searches.specs.Finds.{ending_of}
 use Rattle.searches.specs.declared.find.Find.{Find}
 use Rattle.exports.specs.declared.batch.Batch.{Batch}
@@ -43,15 +46,15 @@ pub data Ended (o : Order) (m : Image) (charge : ℕ) (calls : List Call) (event
       → Ended o m charge calls events refusal
 
 -- a format on its own, without an opening
-pub data Formats (o : Order) (m : Image) (charge : ℕ) (b : Batch) : Type 0 where
-  formatted : {s : State} → b ≡ record { done = 1; refusal = 0 } → Led o m (event formats accepted ∷ granted charge) s → Formats o m charge b
-  unformatted : {s : State} {values : List ℕ} → b.done ≡ 0 → Led o m (event formats (refused b.refusal values) ∷ granted charge) s → Formats o m charge b
+pub data FormatBatch (o : Order) (m : Image) (charge : ℕ) (b : Batch) : Type 0 where
+  formatted : {s : State} → b ≡ record { done = 1; refusal = 0 } → Led o m (event formats accepted ∷ granted charge) s → FormatBatch o m charge b
+  unformatted : {s : State} {values : List ℕ} → b.done ≡ 0 → Led o m (event formats (refused b.refusal values) ∷ granted charge) s → FormatBatch o m charge b
 
 -- an event lodged at each of the first points
 abbrev pub lodging : List ℕ → Event
 lodging x = event (lodges x) accepted
 
-pub record Lodges (o : Order) (m : Image) (charge : ℕ) (points : List (List ℕ)) (b : Batch) : Type 0 where
+pub record LodgeBatch (o : Order) (m : Image) (charge : ℕ) (points : List (List ℕ)) (b : Batch) : Type 0 where
   pub few : b.done ≤ length points
   pub ended : Ended o m charge (map lodges points) (map lodging (take b.done points)) b.refusal
 
@@ -61,7 +64,7 @@ tallied [] ns = []
 tallied (x ∷ xs) [] = []
 tallied (x ∷ xs) (n ∷ ns) = event (tallies x) (counted n) ∷ tallied xs ns
 
-pub record Tallies (o : Order) (m : Image) (charge : ℕ) (points : List (List ℕ)) (before after : List ℕ) (b : Batch) : Type 0 where
+pub record TallyBatch (o : Order) (m : Image) (charge : ℕ) (points : List (List ℕ)) (before after : List ℕ) (b : Batch) : Type 0 where
   pub few : (b.done ≤ length points) × (b.done ≤ length after)
   pub ended : Ended o m charge (map tallies (take (length before) points)) (tallied (take b.done points) after) b.refusal
   -- the places past those counts keep what they held
@@ -69,30 +72,31 @@ pub record Tallies (o : Order) (m : Image) (charge : ℕ) (points : List (List �
 
 -- a number as far as it is told
 abbrev pub capped : ℕ → ℕ
-capped n = min n 18446744073709551615
+capped n = min n (2 ^ 64 - 1)
 
 -- the search of a box, from its first address, with room for so many finds
 abbrev pub seeking : ℕ → Corners → Call
 seeking room c = searches c.low c.high 0 room
 
--- searches of these boxes came to these events, with so many finds and so many page reads in all
-pub data Sought (room : ℕ) : List Corners → List Event → ℕ → ℕ → Type 0 where
-  none : Sought room [] [] 0 0
-  more : {boxes boxes' : List Corners} {events events' : List Event} {finds reads finds' reads' : ℕ} → Sought room boxes events finds reads
-      → (c : Corners) (xs : List Find) (k : ℕ) (e : Ending) → boxes' ≡ boxes ++ c ∷ [] → events' ≡ events ++ event (seeking room c) (found xs k (ending_of e)) ∷ []
-      → finds' ≡ capped (finds + length xs) → reads' ≡ capped (reads + k) → Sought room boxes' events' finds' reads'
+-- SearchBatch of these boxes came to these events, with so many finds and so many page reads in all; the lent memory, in which each search begins anew, now holds `memory`.
+pub data Sought (lent : List Find) : List Corners → List Event → ℕ → ℕ → List Find → Type 0 where
+  none : Sought lent [] [] 0 0 lent
+  more : {boxes boxes' : List Corners} {events events' : List Event} {finds reads finds' reads' : ℕ} {memory : List Find} → Sought lent boxes events finds reads memory
+      → (c : Corners) (r : Found) (memory' : List Find) → boxes' ≡ boxes ++ c ∷ []
+      → events' ≡ events ++ event (seeking (length lent) c) (found (take r.count memory') r.reads (ending_of r.ending)) ∷ [] → length (take r.count memory') ≡ r.count
+      → finds' ≡ capped (finds + r.count) → reads' ≡ capped (reads + r.reads) → LentBack r memory memory' → Sought lent boxes' events' finds' reads' memory'
 
 -- the next box has a low end above its high end, so it is none
 pub record NoBox (o : Order) (m : Image) (charge : ℕ) (boxes : List Corners) (events : List Event) (refusal : ℕ) : Type 0 where
-  pub number : refusal ≡ 4
+  pub number : refusal ≡ number_of BoxEnds
   pub box : Corners
   pub next : slice_get boxes (length events) ≡ Some box
   pub unordered : Ordered box.low box.high → ⊥
   pub left : State
   pub led : Led o m (onward events (opened charge)) left
 
-pub record Searches (o : Order) (m : Image) (charge : ℕ) (boxes : List Corners) (room : ℕ) (b : Searched) : Type 0 where
+pub record SearchBatch (o : Order) (m : Image) (charge : ℕ) (boxes : List Corners) (lent memory : List Find) (b : Searched) : Type 0 where
   pub few : b.done ≤ length boxes
   pub events : List Event
-  pub sought : Sought room (take b.done boxes) events b.finds b.reads
-  pub ended : Ended o m charge (map (seeking room) boxes) events b.refusal ⊎ NoBox o m charge boxes events b.refusal
+  pub sought : Sought lent (take b.done boxes) events b.finds b.reads memory
+  pub ended : Ended o m charge (map (seeking (length lent)) boxes) events b.refusal ⊎ NoBox o m charge boxes events b.refusal

@@ -15,10 +15,13 @@ use Rattle.index.specs.Model.{State, refusal}
 use Rattle.index.specs.Model.Call.{opens}
 use Rattle.index.specs.Model.Answer.{found, refused}
 use Rattle.index.specs.View.{view}
+use Rattle.index.specs.Searched.{LentBack}
+use Rattle.orders.specs.Refusals.{number_of as number_of_space}
+use Rattle.orders.specs.declared.refusal.Refusal.TheVariants.{BoxEnds}
 use Rattle.index.specs.Histories.{History, Led, event}
 use Rattle.exports.specs.Batches.{granted, seeking}
 
-pub record Stands {S O : Type 0} (meaning : S → Image) (order_of : O → Order) (store : S) (order : O) (h : History) (x : Index S O) : Type 0 where
+pub record StandsAt {S O : Type 0} (meaning : S → Image) (order_of : O → Order) (store : S) (order : O) (h : History) (x : Index S O) : Type 0 where
   pub led : Led (order_of order) (meaning store) h (view meaning x)
   pub same : x.order ≡ order
 
@@ -31,7 +34,10 @@ pub record Unopened (o : Order) (m : Image) (charge refusal : ℕ) : Type 0 wher
 -- one search: by a step, answered or refused; or there is no such box
 abbrev pub Seeks : {S O : Type 0} → (S → Image) → (O → Order) → Index S O → Corners → List Find → Result Found ℕ → Index S O → List Find → Type 0
 Seeks meaning order_of x c before (Ok r) y after =
-    Step (order_of x.order) (view meaning x) (found (take r.count after) r.reads (ending_of r.ending)) (view meaning y) (seeking (length before) c) × (length (take r.count after) ≡ r.count)
+    Step (order_of x.order) (view meaning x) (found (take r.count after) r.reads (ending_of r.ending)) (view meaning y) (seeking (length before) c)
+    × (length (take r.count after) ≡ r.count)
+    × LentBack r before after
 Seeks meaning order_of x c before (Err k) y after =
-    ((f : Fault) × (k ≡ number_of f) × Step (order_of x.order) (view meaning x) (refusal f) (view meaning y) (seeking (length before) c))
-    ⊎ ((k ≡ 4) × (Ordered c.low c.high → ⊥) × (y ≡ x))
+    (after ≡ before)
+    × (((f : Fault) × (k ≡ number_of f) × Step (order_of x.order) (view meaning x) (refusal f) (view meaning y) (seeking (length before) c))
+    ⊎ ((k ≡ number_of_space BoxEnds) × (Ordered c.low c.high → ⊥) × (y ≡ x)))

@@ -1,6 +1,6 @@
 // Batches of calls.
 ghost use Rattle.std.specs.Prelude.{◌≡◌, length};
-ghost use Rattle.exports.specs.Batches.{Formats, Lodges, Searches, Tallies};
+ghost use Rattle.exports.specs.Batches.{FormatBatch, LodgeBatch, SearchBatch, TallyBatch};
 ghost use Rattle.exports.specs.Standing.{Seeks};
 
 use crate::opened::{open_index, shut_index};
@@ -37,13 +37,13 @@ pub struct Corners {
     pub high: [u16; 4],
 }
 
-// Formats the index.
+// FormatBatch the index.
 pub(crate) fn format<S: PageStore + Drop, O: PointOrder + Drop>(
     store: S,
     order: O,
     charge: u32,
 ) -> Batch
-    ensures { Formats (O.PointOrder.meaning order) (S.PageStore.meaning store) charge result }
+    ensures { FormatBatch (O.PointOrder.meaning order) (S.PageStore.meaning store) charge result }
 {
     let mut index = shut_index(store, order, charge);
     match index.format() {
@@ -65,7 +65,7 @@ pub(crate) fn lodge_all<S: PageStore + Drop, O: PointOrder + Drop>(
     charge: u32,
     points: &[[u16; 4]],
 ) -> Batch
-    ensures { Lodges (O.PointOrder.meaning order) (S.PageStore.meaning store) charge points.now result }
+    ensures { LodgeBatch (O.PointOrder.meaning order) (S.PageStore.meaning store) charge points.now result }
 {
     let mut index = match open_index(store, order, charge) {
         Ok(index) => index,
@@ -93,7 +93,7 @@ pub(crate) fn tally_all<S: PageStore + Drop, O: PointOrder + Drop>(
     points: &[[u16; 4]],
     counts: &mut [u16],
 ) -> Batch
-    ensures { Tallies (O.PointOrder.meaning order) (S.PageStore.meaning store) charge points.now counts.old counts.new result }
+    ensures { TallyBatch (O.PointOrder.meaning order) (S.PageStore.meaning store) charge points.now counts.old counts.new result }
 {
     let mut index = match open_index(store, order, charge) {
         Ok(index) => index,
@@ -141,7 +141,7 @@ pub(crate) fn search_all<S: PageStore + Drop, O: PointOrder + Drop>(
     boxes: &[Corners],
     finds: &mut [Find],
 ) -> Searched
-    ensures { Searches (O.PointOrder.meaning order) (S.PageStore.meaning store) charge boxes.now (length finds.old) result }
+    ensures { SearchBatch (O.PointOrder.meaning order) (S.PageStore.meaning store) charge boxes.now finds.old finds.new result }
 {
     let mut searched = Searched {
         done: 0,

@@ -1,8 +1,9 @@
-// The exports. Each is refused with 1 where there is no such space.
+// The exports. Each is refused with 1 where there is no such space. What the lent bytes hold after a batch is not said here: a batch runs on an index
+// over any store, and its contracts speak of the store's meaning, not of the loan.
 ghost use Rattle.std.specs.Prelude.{◌≡◌, length};
 ghost use Rattle.orders.specs.Spaces.{Range};
 ghost use Rattle.pages.specs.Cut.{held};
-ghost use Rattle.exports.specs.Batches.{z_order, Formats, Lodges, Searches, Tallies};
+ghost use Rattle.exports.specs.Batches.{z_order, FormatBatch, LodgeBatch, SearchBatch, TallyBatch};
 
 use crate::batch::{Batch, Corners, Searched, format, lodge_all, search_all, tally_all};
 use orders::order::ZOrder;
@@ -10,11 +11,11 @@ use orders::space::Space;
 use pages::memory::MemoryStore;
 use searches::find::Find;
 
-// Formats the index.
+// FormatBatch the index.
 #[unsafe(no_mangle)]
 pub extern "C" fn exports_format(bytes: &mut [u8], n: u8, p: u8, charge: u32) -> Batch
-    ensures space { (Range n p → ⊥) → result ≡ record { done = 0; refusal = 1 } }
-    ensures formats { Range n p → Formats (z_order n p) (held bytes.old 0) charge result }
+    ensures space { (Range n p → ⊥) → (result ≡ record { done = 0; refusal = 1 }) × (bytes.new ≡ bytes.old) }
+    ensures formats { Range n p → FormatBatch (z_order n p) (held bytes.old 0) charge result }
 {
     match Space::new(n, p) {
         Ok(space) => format(MemoryStore::over(bytes), ZOrder::over(space), charge),
@@ -34,8 +35,8 @@ pub extern "C" fn exports_lodge(
     charge: u32,
     points: &[[u16; 4]],
 ) -> Batch
-    ensures space { (Range n p → ⊥) → result ≡ record { done = 0; refusal = 1 } }
-    ensures lodges { Range n p → Lodges (z_order n p) (held bytes.old 0) charge points.now result }
+    ensures space { (Range n p → ⊥) → (result ≡ record { done = 0; refusal = 1 }) × (bytes.new ≡ bytes.old) }
+    ensures lodges { Range n p → LodgeBatch (z_order n p) (held bytes.old 0) charge points.now result }
 {
     match Space::new(n, p) {
         Ok(space) => lodge_all(
@@ -61,8 +62,8 @@ pub extern "C" fn exports_tally(
     points: &[[u16; 4]],
     counts: &mut [u16],
 ) -> Batch
-    ensures space { (Range n p → ⊥) → (result ≡ record { done = 0; refusal = 1 }) × (counts.new ≡ counts.old) }
-    ensures tallies { Range n p → Tallies (z_order n p) (held bytes.old 0) charge points.now counts.old counts.new result }
+    ensures space { (Range n p → ⊥) → (result ≡ record { done = 0; refusal = 1 }) × (bytes.new ≡ bytes.old) × (counts.new ≡ counts.old) }
+    ensures tallies { Range n p → TallyBatch (z_order n p) (held bytes.old 0) charge points.now counts.old counts.new result }
 {
     match Space::new(n, p) {
         Ok(space) => tally_all(
@@ -89,8 +90,8 @@ pub extern "C" fn exports_search(
     boxes: &[Corners],
     finds: &mut [Find],
 ) -> Searched
-    ensures space { (Range n p → ⊥) → (result ≡ record { done = 0; refusal = 1; finds = 0; reads = 0 }) × (finds.new ≡ finds.old) }
-    ensures searches { Range n p → Searches (z_order n p) (held bytes.old 0) charge boxes.now (length finds.old) result }
+    ensures space { (Range n p → ⊥) → (result ≡ record { done = 0; refusal = 1; finds = 0; reads = 0 }) × (bytes.new ≡ bytes.old) × (finds.new ≡ finds.old) }
+    ensures searches { Range n p → SearchBatch (z_order n p) (held bytes.old 0) charge boxes.now finds.old finds.new result }
 {
     match Space::new(n, p) {
         Ok(space) => search_all(

@@ -1,6 +1,6 @@
 // An index over a store.
 ghost use Rattle.std.specs.Prelude.{MatchResult};
-ghost use Rattle.exports.specs.Standing.{Stands, Unopened};
+ghost use Rattle.exports.specs.Standing.{StandsAt, Unopened};
 ghost use Rattle.exports.specs.Batches.{granted, opened};
 
 use index::index::Index;
@@ -14,7 +14,7 @@ pub(crate) fn shut_index<S: PageStore + Drop, O: PointOrder + Drop>(
     order: O,
     charge: u32,
 ) -> Index<S, O>
-    ensures { Stands S.PageStore.meaning O.PointOrder.meaning store order (granted charge) result }
+    ensures { StandsAt S.PageStore.meaning O.PointOrder.meaning store order (granted charge) result }
 {
     let mut index = Index::new(store, order);
     index.grant(charge);
@@ -27,7 +27,7 @@ pub(crate) fn open_index<S: PageStore + Drop, O: PointOrder + Drop>(
     order: O,
     charge: u32,
 ) -> Result<Index<S, O>, u8>
-    ensures { MatchResult result (Stands S.PageStore.meaning O.PointOrder.meaning store order (opened charge)) (Unopened (O.PointOrder.meaning order) (S.PageStore.meaning store) charge) }
+    ensures { MatchResult result (StandsAt S.PageStore.meaning O.PointOrder.meaning store order (opened charge)) (Unopened (O.PointOrder.meaning order) (S.PageStore.meaning store) charge) }
 {
     let mut index = shut_index(store, order, charge);
     let mut work = [Visit::default(); 64];

@@ -1,6 +1,6 @@
 use Rattle.std.proofs.Common.{refl}
 use Rattle.exports.specs.Batches.{granted}
-use Rattle.exports.specs.Batches.Formats.{formatted, unformatted}
+use Rattle.exports.specs.Batches.FormatBatch.{formatted, unformatted}
 use Rattle.exports.proofs.Standings.{led_on, refused_on}
 use Rattle.exports.proofs.batch.format.Goals as goal
 

@@ -13,14 +13,14 @@ loop-i-init g c = (([], none, c.in-Ok.ensures), refl, refl, refl)
 pub returns-in-Err-search_one : goal.returns-in-Err-search_one
 returns-in-Err-search_one g c =
     let l = c.loop-i.invariant in
-    seek_refused g.S.PageStore.meaning g.O.PointOrder.meaning c.args.store c.args.order c.args.charge _ c.args.boxes.now c.loop-i.i _ l.0.0 _ _ l.0.1 c.loop-i.index l.0.2
-    c.loop-i-test.true c.search_one.new.index c.loop-i.finds c.search_one.new.finds _ _ l.3 l.1 c.in-Err-search_one.ensures.seeks
+    seek_refused g.S.PageStore.meaning g.O.PointOrder.meaning c.args.store c.args.order c.args.charge _ _ c.args.boxes.now c.loop-i.i _ l.0.0 _ _ l.0.1 c.loop-i.index l.0.2
+    c.loop-i-test.true c.search_one.new.index c.search_one.new.finds _ _ l.3 l.1 c.in-Err-search_one.ensures.seeks
 
 pub loop-i-preserved : goal.loop-i-preserved
 loop-i-preserved g c =
     let l = c.loop-i.invariant in (
-      seek_more g.S.PageStore.meaning g.O.PointOrder.meaning c.args.store c.args.order c.args.charge _ c.args.boxes.now c.loop-i.i _ l.0.0 _ _ l.0.1 c.loop-i.index l.0.2
-          c.loop-i-test.true c.search_one.new.index c.loop-i.finds c.search_one.new.finds c.in-Ok-search_one.found _ _ l.3 c.saturating_add.ensures c.saturating_add-in-Ok-search_one.ensures c.in-Ok-search_one.ensures.seeks c.in-Ok-search_one.ensures.order,
+      seek_more g.S.PageStore.meaning g.O.PointOrder.meaning c.args.store c.args.order c.args.charge _ _ c.args.boxes.now c.loop-i.i _ l.0.0 _ _ l.0.1 c.loop-i.index l.0.2
+          c.loop-i-test.true c.search_one.new.index c.search_one.new.finds c.in-Ok-search_one.found _ _ l.3 c.saturating_add.ensures c.saturating_add-in-Ok-search_one.ensures c.in-Ok-search_one.ensures.seeks c.in-Ok-search_one.ensures.order,
       refl,
       l.2,
       c.search_one.auto.finds ∙ l.3,
@@ -29,5 +29,5 @@ loop-i-preserved g c =
 pub returns : goal.returns
 returns g c =
     let l = c.loop-i.invariant in
-    all_sought g.S.PageStore.meaning g.O.PointOrder.meaning c.args.store c.args.order c.args.charge _ c.args.boxes.now c.loop-i.i (record { low = []; high = [] }) l.0.0 _ _ l.0.1 c.loop-i.index l.0.2
+    all_sought g.S.PageStore.meaning g.O.PointOrder.meaning c.args.store c.args.order c.args.charge _ _ c.args.boxes.now c.loop-i.i (record { low = []; high = [] }) l.0.0 _ _ l.0.1 c.loop-i.index l.0.2
     (omega (arith, c.loop-i-test.false, c.loop-i.auto.i-end)) c.loop-i.searched l.1 l.2 refl refl
