@@ -1,5 +1,5 @@
 -- What a script sets up, and what set-up lines are answered.
-use Rattle.std.specs.Prelude.{◌≡◌, ◌≢◌, ℕ, ◌*◌, ◌⊎◌, Some, None, replicate, Bool, true, false}
+use Rattle.std.specs.Prelude.{◌≡◌, ◌≢◌, ℕ, ◌*◌, ◌⊎◌, Some, None, replicate, Bool, true, false, [], ◌∷◌, ◌++◌}
 use Rattle.orders.specs.Spaces.{Range}
 use Rattle.orders.specs.declared.refusal.Refusal.TheVariants.{SpaceRange}
 use Rattle.answers.specs.declared.answer.Answer.{Answer}
@@ -13,6 +13,7 @@ use Rattle.script.specs.declared.setup.Setup.TheVariants.{Order, Memory as SetMe
 use Rattle.session.specs.declared.memory.Kind.TheVariants.{Pages}
 use Rattle.session.specs.declared.memory.Memory.{Memory}
 use Rattle.session.specs.declared.session.Chosen.{Chosen}
+use Rattle.session.specs.declared.session.Ending.{Ending}
 use Rattle.session.specs.declared.session.Session.{Session}
 
 -- so many pages for a memory store, with the same byte everywhere
@@ -47,3 +48,7 @@ late_line called Turned = late_layer called
 late_line called (Skip bad) = late_layer called
 late_line called Dump = out_of_order
 late_line called (Save file) = out_of_order
+
+-- one more thing to do at the end, behind those that are to be done already
+abbrev pub Notes : Session → Ending → Session → Type 0
+Notes s e t = (t.order ≡ s.order) × (t.called ≡ s.called) × (t.endings.items ≡ s.endings.items ++ e ∷ [])

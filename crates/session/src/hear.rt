@@ -1,4 +1,7 @@
 // Hearing a line: what is answered alike at every point of a script is answered here.
+ghost use Rattle.std.specs.Prelude.{IfOk};
+ghost use Rattle.session.specs.SetUp.{Notes};
+
 use crate::session::{Ending, Session};
 use answers::answer::Answer;
 use orders::refusal::Refusal;
@@ -15,7 +18,9 @@ pub fn say(rt: &HostRuntime, echo: &str, answer: Answer) -> anyhow::Result<()> {
 }
 
 // Notes what is to be done at the end.
-fn note(rt: &HostRuntime, session: &mut Session, echo: &str, ending: Ending) -> anyhow::Result<()> {
+fn note(rt: &HostRuntime, session: &mut Session, echo: &str, ending: Ending) -> anyhow::Result<()>
+    ensures { IfOk result (λ _. Notes session.old ending session.new) }
+{
     session.endings.push(ending)?;
     say(rt, echo, Answer::Ok)
 }

@@ -1,5 +1,7 @@
 // The first part of a script: the order and the store.
+ghost use Rattle.std.specs.Prelude.{◌≡◌, IfOk};
 ghost use Rattle.session.specs.SetUp.{Chooses};
+ghost use Rattle.session.specs.declared.memory.Kind.TheVariants.{Pages, Slots};
 
 use crate::hear::{hear, say};
 use crate::memory::{Kind, Memory, SLOT, blank_slots, filled};
@@ -41,7 +43,9 @@ fn read_file(rt: &HostRuntime, echo: &str, file: &str) -> anyhow::Result<Option<
     }
 }
 
-fn make_pages(rt: &HostRuntime, echo: &str, bytes: Vec<u8>) -> anyhow::Result<Memory> {
+fn make_pages(rt: &HostRuntime, echo: &str, bytes: Vec<u8>) -> anyhow::Result<Memory>
+    ensures { IfOk result (λ m. (m.bytes ≡ bytes) × (m.kind ≡ Pages)) }
+{
     say(rt, echo, Answer::Ok)?;
     Ok(Memory {
         bytes,
@@ -49,7 +53,9 @@ fn make_pages(rt: &HostRuntime, echo: &str, bytes: Vec<u8>) -> anyhow::Result<Me
     })
 }
 
-fn make_slots(rt: &HostRuntime, echo: &str, bytes: Vec<u8>, pages: u16) -> anyhow::Result<Memory> {
+fn make_slots(rt: &HostRuntime, echo: &str, bytes: Vec<u8>, pages: u16) -> anyhow::Result<Memory>
+    ensures { IfOk result (λ m. (m.bytes ≡ bytes) × (m.kind ≡ Slots pages)) }
+{
     let (slots, _rest) = bytes.as_slice().as_chunks::<SLOT>();
     let answer = slots_allowed(slots, pages).map_or_else(Answer::Unmade, |()| Answer::Ok);
     say(rt, echo, answer)?;
