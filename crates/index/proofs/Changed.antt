@@ -13,6 +13,7 @@ use Rattle.tree.proofs.CopyKept.{range_law}
 use Rattle.faults.specs.Accesses.{contents}
 use Rattle.faults.specs.Refusals.{unwritten}
 use Rattle.faults.specs.declared.fault.Fault.{Fault}
+use Rattle.paths.specs.OldPages.{old_pages}
 use Rattle.paths.specs.declared.copied.Copied.{Copied}
 use Rattle.index.specs.Model.{Call, Answer, State, Known, state, limit, refusal, told}
 use Rattle.index.specs.Model.Answer.{accepted, refused}
@@ -31,7 +32,7 @@ use Rattle.index.proofs.Settling.{After}
 pub record MadeCopy (o : Order) (m : Image) (f : Filed) (free : List ℕ) (t : TreeState) (total : ℕ) (g : Copied) (m' : Image) : Type 0 where
   pub root : g.root.page ≡ root_of t.tree
   pub height : g.root.level ≡ t.height
-  pub freed : t.free ≡ reverse g.trade.path.items ++ drop g.trade.used free
+  pub freed : t.free ≡ reverse (old_pages g.trade.path) ++ drop g.trade.used free
   pub kept : TreeKept (contents m') (limit m) total (top o) t
   pub old : TreeKept (contents m') (limit m) f.total (top o) (tree_state f free)
   pub page : at m' 1 ≡ at m 1
@@ -47,15 +48,15 @@ module _ (o : Order) (m : Image) (k : Known) (f : Filed) (free : List ℕ) (hold
     (Copy : Result Copied Fault → Image → Type 0)
     (rule : (a : Answer) (u : State) (v : Content) → Changes o (state m k) f Copy t total a u v → Does o (filed f) (state m k) a u v call) where
   -- the free list after the header is the new tree's
-  free_after : (g : Copied) (m' : Image) (free' : List ℕ) → MadeCopy o m f free t total g m' → GivenBack g.trade.path.items (drop g.trade.used free) free' → free' ≡ t.free
+  free_after : (g : Copied) (m' : Image) (free' : List ℕ) → MadeCopy o m f free t total g m' → GivenBack (old_pages g.trade.path) (drop g.trade.used free) free' → free' ≡ t.free
   free_after g m' free' made given =
       let range = range_law (contents m') (limit m) total (top o) t made.kept in
       let all = subst (λ (xs : List ℕ). AllByRecursion (λ p. (2 ≤ p) × (p ≤ limit m)) xs) made.freed range.1 in
       let apart = subst (λ (xs : List ℕ). Apart xs) made.freed range.2 in
-      given (all_front (limit m) (reverse g.trade.path.items) (drop g.trade.used free) (omega arith) all) apart ∙ sym made.freed
+      given (all_front (limit m) (reverse (old_pages g.trade.path)) (drop g.trade.used free) (omega arith) all) apart ∙ sym made.freed
 
   pub sealed : (g : Copied) (m' m'' : Image) (free' : List ℕ) → MadeCopy o m f free t total g m' → Copy (Ok g) m' →
-      WritesHead o m' g.root.level g.root.page total (Ok tt) m'' → GivenBack g.trade.path.items (drop g.trade.used free) free' →
+      WritesHead o m' g.root.level g.root.page total (Ok tt) m'' → GivenBack (old_pages g.trade.path) (drop g.trade.used free) free' →
       Goes o (filed f) (state m k) accepted (state m'' (knows g.root.level g.root.page total free')) call
   sealed g m' m'' free' made copy head given =
       let em : m'' ≡ written m' 1 (header_bytes (header_for o (file_of t total))) =

@@ -17,6 +17,7 @@ use Rattle.faults.specs.Accesses.{contents}
 use Rattle.paths.specs.declared.copied.Copied.{Copied}
 use Rattle.paths.specs.PathsWrites.{Wrote, Accepts, stored, after_reads}
 use Rattle.paths.specs.LodgeKept.{Lodges}
+use Rattle.paths.proofs.PathsBack.{no_pages}
 use Rattle.paths.proofs.PathsMemory.{kept_after}
 use Rattle.paths.proofs.PathsCopying.{stored_length, stays}
 use Rattle.index.specs.Model.{State, state, limit}
@@ -61,7 +62,7 @@ module _ (o : Order) (law : Lawful o) (m : Image) (x : List ℕ) (inside : InSpa
   after = stored writes (after_reads m 0)
 
   abbrev copy : Copied
-  copy = record { root = record { page = front (usable (limit m)); level = 1 }; trade = record { used = 1; path = record { items = [] } } }
+  copy = record { root = record { page = front (usable (limit m)); level = 1 }; trade = record { used = 1; path = no_pages } }
 
   room : 7 ≤ length (usable (limit m))
   room = omega (arith, upward_length 2 (limit m - 1))

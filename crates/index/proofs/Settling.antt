@@ -7,6 +7,7 @@ use Rattle.layout.specs.Heads.{header_bytes}
 use Rattle.orders.specs.Orders.{Order}
 use Rattle.records.specs.Free.{numbers}
 use Rattle.faults.specs.declared.fault.Fault.{Fault}
+use Rattle.paths.specs.OldPages.{old_pages}
 use Rattle.paths.specs.declared.copied.Copied.{Copied}
 use Rattle.index.specs.declared.index.OpenTree.{OpenTree}
 use Rattle.index.specs.Model.{Known}
@@ -18,7 +19,7 @@ use Rattle.index.specs.View.{known_tree}
 
 -- `k` was known before, of a tree with these free pages
 abbrev pub After : Result (Unit {0}) Fault → List ℕ → Known → Copied → ℕ → Known → Type 0
-After (Ok u) free k g total k' = (free' : List ℕ) × (k' ≡ knows g.root.level g.root.page total free') × GivenBack g.trade.path.items (drop g.trade.used free) free'
+After (Ok u) free k g total k' = (free' : List ℕ) × (k' ≡ knows g.root.level g.root.page total free') × GivenBack (old_pages g.trade.path) (drop g.trade.used free) free'
 After (Err f) free k g total k' = k' ≡ k
 
 pub after_known : (t t' : OpenTree) (g : Copied) (total : ℕ) (res : Result (Unit {0}) Fault) → Renews t g total res t' →

@@ -2,10 +2,11 @@
 use Rattle.std.proofs.Common.{◌≡◌, ℕ, zero, suc, ◌+◌, ◌<◌, ◌≤◌, List, [], ◌∷◌, ◌++◌, reverse, length, get_or, drop, Ok, Err, Result, sym, refl, ap, ◌∙◌, subst, inl, inr, arith, length-append}
 use Rattle.std.specs.Prelude.{IfOk}
 use Rattle.std.proofs.lemmas.List.{drop_more}
-use Rattle.arrayvec.specs.ArrayVec.{ArrayVec}
+use Rattle.paths.specs.declared.old_pages.OldPages.{OldPages}
+use Rattle.paths.specs.OldPages.{old_pages}
 use Rattle.pages.specs.Image.{Image}
 use Rattle.layout.specs.declared.change.ChildPages.{ChildPages}
-use Rattle.layout.specs.declared.change.ChildPages.TheVariants.{One, Two}
+use Rattle.layout.specs.declared.change.ChildPages.TheVariants.{Two}
 use Rattle.layout.specs.declared.page_ref.PageRef.{PageRef}
 use Rattle.tree.specs.Tree.{Contents}
 use Rattle.tree.specs.CopyWrites.{Write}
@@ -32,7 +33,7 @@ use Rattle.paths.specs.LodgeRules.Denied.{full, high, few}
 use Rattle.paths.specs.LodgeRules.Unlodged.{denied, cut}
 use Rattle.paths.specs.LodgeTree.{Rooted, Roots, LodgedBy}
 use Rattle.paths.proofs.PathsBack.{same_path}
-use Rattle.paths.proofs.PathsWriting.{after_none, wrote_none, wrote_more, unwrites_more, unwrites_less}
+use Rattle.paths.proofs.PathsWriting.{after_none, wrote_more, unwrites_more, unwrites_less}
 
 at_front : (h used p v k w : ℕ) (free : List ℕ) (pages : ChildPages) (m m' : Image) (r : Result Copied Fault) → used + 1 ≤ length free → p ≡ get_or free used 0 → pages ≡ Two v k w
     → Rooted (new_root_at h (two v k w) [] (p ∷ drop (used + 1) free)) (suc h) used m r m' → Roots m h (pages_in pages) free used r m'
@@ -46,13 +47,6 @@ pub root_refused : (h used p v k w : ℕ) (free : List ℕ) (pages : ChildPages)
 root_refused h used p v k w free pages m m' f n e q u =
     let s : h + 1 ≡ suc h = omega arith in
     at_front h used p v k w free pages m m' (Err f) n e q (subst (λ (x : ℕ). Unwrites (write_of x p (entry k v ∷ (entry 0 w ∷ [])) ∷ []) m f m') s u)
-
--- one page is the root
-pub root_stays : (h used p : ℕ) (free : List ℕ) (pages : ChildPages) (m : Image) (g : Copied) → pages ≡ One p → g.root ≡ record { page = p; level = h } → g.trade.used ≡ used
-    → Roots m h (pages_in pages) free used (Ok g) m
-root_stays h used p free pages m g e r u =
-    subst (λ (x : ChildPages). Roots m h (pages_in x) free used (Ok g) m) (sym e)
-    (record { root = ap (λ (x : PageRef). x.page) r; height = ap (λ (x : PageRef). x.level) r; uses = omega (arith, u); wrote = wrote_none m m refl })
 
 pub root_made : (h used p v k w : ℕ) (free : List ℕ) (pages : ChildPages) (m m' : Image) (g : Copied) → used + 1 ≤ length free → p ≡ get_or free used 0 → pages ≡ Two v k w
     → Wrote (write_of (h + 1) p (entry k v ∷ (entry 0 w ∷ [])) ∷ []) m m' → g.root ≡ record { page = p; level = h + 1 } → g.trade.used ≡ used + 1
@@ -138,7 +132,7 @@ root_ends : (h : ℕ) (m m₁ m' : Image) (p a used : ℕ) (free : List ℕ) (r 
     → Allowed (count_under (suc h) (contents m) p a) (lodge_by (suc h) (contents m) p a free).next.height (needed (suc h) (contents m) p a) (length free)
     → used ≡ 0 + length (lodge_at (suc h) (contents m) p a free).writes
     → Wrote (lodge_at (suc h) (contents m) p a free).writes (after_reads m (suc h)) m₁
-    → IfOk r (λ g. IsPath m (suc h) p a g.trade.path.items)
+    → IfOk r (λ g. IsPath m (suc h) p a (old_pages g.trade.path))
     → Rooted (new_root_at (suc h) (lodge_at (suc h) (contents m) p a free).part [] (lodge_at (suc h) (contents m) p a free).rest) (raised_at (lodge_at (suc h) (contents m) p a free).part (suc h)) used m₁ r m'
     → LodgedBy m (suc h) p a free r m'
 root_ends h m m₁ m' p a used free (Ok g) c d q w b v =
@@ -165,8 +159,8 @@ root_ends h m m₁ m' p a used free (Err f) c d q w b v =
           (unwrites_more k.writes W (after_reads m (suc h)) m₁ m' f w v)),
     )
 
-pub tree_roots : (h : ℕ) (m m₁ m' : Image) (p a : ℕ) (free : List ℕ) (g : Placed) (path : ArrayVec ℕ) (r : Result Copied Fault) → 1 ≤ h → h ≤ 6
-    → Lodged m h p a free (record { base = h; extra = 1; height = h + 1 }) (Ok g) m₁ → IsPath m h p a path.items → IfOk r (λ c. c.trade.path ≡ path)
+pub tree_roots : (h : ℕ) (m m₁ m' : Image) (p a : ℕ) (free : List ℕ) (g : Placed) (path : OldPages) (r : Result Copied Fault) → 1 ≤ h → h ≤ 6
+    → Lodged m h p a free (record { base = h; extra = 1; height = h + 1 }) (Ok g) m₁ → IsPath m h p a (old_pages path) → IfOk r (λ c. c.trade.path ≡ path)
     → Roots m₁ h (pages_in g.pages) free g.trade.used r m' → LodgedBy m h p a free r m'
 tree_roots zero m m₁ m' p a free g path r o l t b i u = absurd (omega arith)
 tree_roots (suc h) m m₁ m' p a free g path r o l t b i u =
@@ -195,7 +189,7 @@ first_refused m m' p a q n (x ∷ xs) f e l z u =
           (subst (λ (y : ℕ). Unwrites (write_of 1 y (entry a 1 ∷ []) ∷ []) (after_reads m 0) f m') z (subst (λ (y : Image). Unwrites (write_of 1 q (entry a 1 ∷ []) ∷ []) y f m') (after_none m) u)),
     )
 
-pub first_made : (m m' : Image) (p a q n next : ℕ) (free : List ℕ) (path : ArrayVec ℕ) → next ≡ 1 → path.items ≡ [] → n ≡ length free → 7 ≤ n → q ≡ get_or free 0 0
+pub first_made : (m m' : Image) (p a q n next : ℕ) (free : List ℕ) (path : OldPages) → next ≡ 1 → old_pages path ≡ [] → n ≡ length free → 7 ≤ n → q ≡ get_or free 0 0
     → Wrote (write_of 1 q (entry a 1 ∷ []) ∷ []) m m' → LodgedBy m 0 p a free (Ok (record { root = record { page = q; level = 1 }; trade = record { used = next; path = path } })) m'
 unfolding path_at
 first_made m m' p a q n next [] path i b e l z w = absurd (omega (arith, e, l))

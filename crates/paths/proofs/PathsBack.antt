@@ -1,8 +1,7 @@
 -- The old pages of a path, the leaf's first.
-use Rattle.std.proofs.Common.{◌≡◌, ℕ, zero, suc, List, [], ◌∷◌, ◌++◌, reverse, length, Ok, Err, Result, sym, refl, ap, ◌∙◌, subst, arith}
+use Rattle.std.proofs.Common.{◌≡◌, ℕ, zero, suc, List, [], ◌∷◌, ◌++◌, reverse, length, replicate, Ok, Err, Result, sym, refl, ap, ◌∙◌, subst, arith}
 use Rattle.std.specs.Prelude.{IfOk}
-use Rattle.std.proofs.lemmas.List.{reverse-append, length-reverse}
-use Rattle.arrayvec.specs.ArrayVec.{ArrayVec}
+use Rattle.std.proofs.lemmas.List.{reverse-append, length-reverse, get_or-replicate}
 use Rattle.pages.specs.Image.{Image}
 use Rattle.layout.specs.declared.entry.Entry.{Entry}
 use Rattle.tree.specs.Tree.{Contents}
@@ -10,6 +9,8 @@ use Rattle.tree.specs.CopyPages.{pick}
 use Rattle.tree.specs.CopyMemory.{path_at}
 use Rattle.faults.specs.declared.fault.Fault.{Fault}
 use Rattle.faults.specs.Accesses.{contents}
+use Rattle.paths.specs.declared.old_pages.OldPages.{OldPages}
+use Rattle.paths.specs.OldPages.{old_pages}
 use Rattle.paths.specs.PathsReading.{IsPath}
 use Rattle.paths.proofs.PathsReading.{Goes, at_child}
 
@@ -33,10 +34,14 @@ inner_path (suc zero) k m m₂ p a child es old path w t e = absurd (omega (arit
 inner_path (suc (suc h)) k m m₂ p a child es old path w t e =
     subst (IsPath m (suc (suc h)) p a) (sym e) (inner_one m h p a old (at_child (λ x y z. IsPath x y z a old) m m₂ h k p a child es w t))
 
+-- no page yet
+abbrev pub no_pages : OldPages
+no_pages = record { table = replicate 6 0; len = 0; six = omega arith; rest = λ j l s. get_or-replicate 6 j 0 0 s }
+
 -- an answer that has the same path
-pub same_path : {A : Type 0} (pages : A → ArrayVec ℕ) (m : Image) (l p a : ℕ) (path : ArrayVec ℕ) (r : Result A Fault) → IsPath m l p a path.items → IfOk r (λ g. pages g ≡ path)
-    → IfOk r (λ g. IsPath m l p a (pages g).items)
-same_path pages m l p a path (Ok g) b i = subst (λ (x : ArrayVec ℕ). IsPath m l p a x.items) (sym i) b
+pub same_path : {A : Type 0} (pages : A → OldPages) (m : Image) (l p a : ℕ) (path : OldPages) (r : Result A Fault) → IsPath m l p a (old_pages path) → IfOk r (λ g. pages g ≡ path)
+    → IfOk r (λ g. IsPath m l p a (old_pages (pages g)))
+same_path pages m l p a path (Ok g) b i = subst (λ (x : OldPages). IsPath m l p a (old_pages x)) (sym i) b
 same_path pages m l p a path (Err f) b i = tt
 
 -- one page of each level

@@ -22,6 +22,7 @@ use Rattle.tree.proofs.CopyUpdate.{update_law}
 use Rattle.faults.specs.declared.fault.Fault.{Fault}
 use Rattle.faults.specs.declared.fault.Fault.TheVariants.{Shut, Outside, Work, Absent, Unread, NoHeader, OtherOrder, Unsound, NoEvent, CountFull, HeightFull, Room, Unwritten}
 use Rattle.faults.specs.Accesses.{contents}
+use Rattle.paths.specs.OldPages.{old_pages}
 use Rattle.paths.specs.declared.left.Left.{Left}
 use Rattle.paths.specs.declared.copied.Copied.{Copied}
 use Rattle.paths.specs.PathsWrites.{after_reads, Wrote, Unwrites}
@@ -44,7 +45,7 @@ empty_none m p a free = no_event refl (omega arith) refl (after_none m)
 pub empty_refused : (m : Image) (h p a : ℕ) (free : List ℕ) → h ≡ 0 → Withdrew m h p a free (Err NoEvent) m
 empty_refused m h p a free e = subst (λ (x : ℕ). Withdrew m x p a free (Err NoEvent) m) (sym e) (refusal (omega arith, omega arith) (empty_none m p a free))
 
-pub root_copied : (m m' : Image) (h p a : ℕ) (free : List ℕ) (g : Left) (c : Copied) → RoomFor h free → 1 ≤ h → Done m h p a free g m' → IsPath m h p a g.trade.path.items → c ≡ copied_of g h → Withdrew m h p a free (Ok c) m'
+pub root_copied : (m m' : Image) (h p a : ℕ) (free : List ℕ) (g : Left) (c : Copied) → RoomFor h free → 1 ≤ h → Done m h p a free g m' → IsPath m h p a (old_pages g.trade.path) → c ≡ copied_of g h → Withdrew m h p a free (Ok c) m'
 root_copied m m' zero p a free g c b o t w e = absurd (omega arith)
 root_copied m m' (suc h) p a free g c b o t w e =
     subst (λ (x : Copied). CopiesLeft m (suc h) p a free x m') (sym e) (record {

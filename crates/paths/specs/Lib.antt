@@ -1,3 +1,4 @@
+pub mod OldPages
 pub mod PathsWrites
 pub mod PathsPages
 pub mod PathsReading

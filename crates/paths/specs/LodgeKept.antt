@@ -7,6 +7,7 @@ use Rattle.tree.specs.CopyLaws.{Kept, events_of, path_of, root_of, lodge_takes}
 use Rattle.faults.specs.declared.fault.Fault.{Fault}
 use Rattle.faults.specs.declared.fault.Fault.TheVariants.{Shut, Outside, Work, Absent, Unread, NoHeader, OtherOrder, Unsound, NoEvent, CountFull, HeightFull, Room, Unwritten}
 use Rattle.faults.specs.Accesses.{contents}
+use Rattle.paths.specs.OldPages.{old_pages}
 use Rattle.paths.specs.declared.copied.Copied.{Copied}
 use Rattle.paths.specs.PathsWrites.{Wrote, WritesRunOut, after_reads}
 use Rattle.paths.specs.PathsReading.{RunsOut, KeptAt}
@@ -32,7 +33,7 @@ pub record LodgeDone (m : Image) (s : State) (a : ℕ) (g : Copied) (m' : Image)
   pub root : g.root.page ≡ root_of (lodge_step s a).next.tree
   pub height : g.root.level ≡ (lodge_step s a).next.height
   pub used : g.trade.used ≡ length (lodge_step s a).writes
-  pub path : reverse g.trade.path.items ≡ path_of s.tree a
+  pub path : reverse (old_pages g.trade.path) ≡ path_of s.tree a
   pub wrote : Wrote (lodge_step s a).writes (after_reads m s.height) m'
 
 -- The answers in the order of the questions: the path is read (9), the count is below 65,535 (14), the height stays at most 6 (15),
@@ -69,7 +70,7 @@ LodgeNextLaw = (m m' : Image) (limit total top : ℕ) (s : State) (a : ℕ) (g :
 -- its free list is the old path, the root first, before what is left of the old free list
 abbrev pub LodgeFreeLaw : Type 0
 LodgeFreeLaw = (m m' : Image) (limit total top : ℕ) (s : State) (a : ℕ) (g : Copied) → Kept (contents m) limit total top s → a ≤ top → Lodges m s a (Ok g) m'
-    → (lodge_step s a).next.free ≡ reverse g.trade.path.items ++ drop g.trade.used s.free
+    → (lodge_step s a).next.free ≡ reverse (old_pages g.trade.path) ++ drop g.trade.used s.free
 
 -- where it is refused, the state is kept as it was
 abbrev pub LodgeRefusedLaw : Type 0

@@ -6,6 +6,7 @@ use Rattle.tree.specs.CopyMemory.{path_at}
 use Rattle.tree.specs.CopyUpdate.{Update, new_root_at, raised_at, lodge_by, needed}
 use Rattle.faults.specs.declared.fault.Fault.{Fault}
 use Rattle.faults.specs.Accesses.{contents}
+use Rattle.paths.specs.OldPages.{old_pages}
 use Rattle.paths.specs.declared.copied.Copied.{Copied}
 use Rattle.paths.specs.PathsWrites.{Wrote, Unwrites, after_reads}
 use Rattle.paths.specs.PathsReading.{Misread}
@@ -30,7 +31,7 @@ pub record CopiedTo (u : Update) (old : List ℕ) (g : Copied) : Type 0 where
   pub root : g.root.page ≡ u.next.root
   pub height : g.root.level ≡ u.next.height
   pub used : g.trade.used ≡ length u.writes
-  pub path : reverse g.trade.path.items ≡ old
+  pub path : reverse (old_pages g.trade.path) ≡ old
 
 -- and all its pages are written
 pub record TreeDone (m : Image) (h p a : ℕ) (free : List ℕ) (g : Copied) (m' : Image) : Type 0 where

@@ -10,6 +10,7 @@ use Rattle.tree.specs.CopyUpdate.{withdraw_by, root_left, height_at}
 use Rattle.faults.specs.declared.fault.Fault.{Fault}
 use Rattle.faults.specs.declared.fault.Fault.TheVariants.{Shut, Outside, Work, Absent, Unread, NoHeader, OtherOrder, Unsound, NoEvent, CountFull, HeightFull, Room, Unwritten}
 use Rattle.faults.specs.Accesses.{contents}
+use Rattle.paths.specs.OldPages.{old_pages}
 use Rattle.paths.specs.declared.left.Left.{Left}
 use Rattle.paths.specs.declared.copied.Copied.{Copied}
 use Rattle.paths.specs.WithdrawEdits.{left_of}
@@ -34,7 +35,7 @@ pub record CopiesLeft (m : Image) (h p a : ℕ) (free : List ℕ) (g : Copied) (
   pub root : g.root.page ≡ (withdraw_by h (contents m) p a free).next.root
   pub height : g.root.level ≡ (withdraw_by h (contents m) p a free).next.height
   pub used : g.trade.used ≡ length (withdraw_by h (contents m) p a free).writes
-  pub path : IsPath m h p a g.trade.path.items
+  pub path : IsPath m h p a (old_pages g.trade.path)
   pub wrote : Wrote (withdraw_by h (contents m) p a free).writes (after_reads m h) m'
 
 -- or there is no room, and nothing is read; or the reading, the leaf or a write refuses
@@ -57,7 +58,7 @@ pub record WithdrawDone (m : Image) (s : State) (a : ℕ) (g : Copied) (m' : Ima
   pub root : g.root.page ≡ root_of (withdraw_step s a).next.tree
   pub height : g.root.level ≡ (withdraw_step s a).next.height
   pub used : g.trade.used ≡ length (withdraw_step s a).writes
-  pub path : reverse g.trade.path.items ≡ path_of s.tree a
+  pub path : reverse (old_pages g.trade.path) ≡ path_of s.tree a
   pub wrote : Wrote (withdraw_step s a).writes (after_reads m s.height) m'
 
 -- Where a state is kept, the answers in the order of the questions: the path is read (9), the point has an event (13), the pages are
@@ -92,7 +93,7 @@ WithdrawNextLaw = (m m' : Image) (limit total top : ℕ) (s : State) (a : ℕ) (
 -- its free list is the old path, the root first, before what is left of the old free list
 abbrev pub WithdrawFreeLaw : Type 0
 WithdrawFreeLaw = (m m' : Image) (limit total top : ℕ) (s : State) (a : ℕ) (g : Copied) → Kept (contents m) limit total top s → s.height ≤ 6
-    → Withdraws m s a (Ok g) m' → (withdraw_step s a).next.free ≡ reverse g.trade.path.items ++ drop g.trade.used s.free
+    → Withdraws m s a (Ok g) m' → (withdraw_step s a).next.free ≡ reverse (old_pages g.trade.path) ++ drop g.trade.used s.free
 
 -- where it is refused, the state is kept as it was
 abbrev pub WithdrawRefusedLaw : Type 0

@@ -3,7 +3,7 @@ use crate::trade::Trade;
 use layout::page_ref::PageRef;
 
 // The tree's new root, of level 0 where the tree is empty.
-#[derive(Drop, PartialEq, Eq, Debug)]
+#[derive(Clone, Copy, PartialEq, Eq, Debug)]
 pub struct Copied {
     pub root: PageRef,
     pub trade: Trade,

@@ -7,7 +7,7 @@ use crate::trade::Trade;
 use layout::page_ref::{EMPTY, PageRef};
 
 // Its new page, or none; and the trade so far.
-#[derive(Drop, PartialEq, Eq, Debug)]
+#[derive(Clone, Copy, PartialEq, Eq, Debug)]
 pub struct Left {
     pub page: Option<u16>,
     pub trade: Trade,

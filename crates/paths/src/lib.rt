@@ -6,6 +6,7 @@ mod entries;
 mod left;
 pub mod lodge;
 mod lodge_edits;
+pub mod old_pages;
 mod page;
 mod place;
 mod plan;

@@ -2,6 +2,7 @@
 ghost use Rattle.std.specs.Prelude.{◌≡◌, ℕ, ◌+◌, ◌≤◌, length, IfOk};
 ghost use Rattle.records.specs.Free.{numbers};
 ghost use Rattle.layout.specs.Listed.{entries};
+ghost use Rattle.paths.specs.OldPages.{old_pages};
 ghost use Rattle.paths.specs.PathsReading.{IsPath};
 ghost use Rattle.paths.specs.LodgePlaces.{pages_in};
 ghost use Rattle.paths.specs.LodgeRules.{Leafed, Lodged};
@@ -58,7 +59,7 @@ fn lodge_at<S: PageStore>(
     requires low { step.at.level ≤ plan.base }
     requires few { plan.extra + step.at.level ≤ 255 }
     ensures lodges { Lodged (S.meaning store.old) step.at.level step.at.page address (numbers free.now) plan result (S.meaning store.new) }
-    ensures path { IfOk result (λ g. IsPath (S.meaning store.old) step.at.level step.at.page address g.trade.path.items) }
+    ensures path { IfOk result (λ g. IsPath (S.meaning store.old) step.at.level step.at.page address (old_pages g.trade.path)) }
 {
     let mut list = EntryList::new();
     read_page(store, step.at, &mut list)?;

@@ -15,7 +15,7 @@ use pages::store::PageStore;
 use records::free::FreeList;
 
 // What stands in a page's place, and the trade so far.
-#[derive(Drop)]
+#[derive(Clone, Copy)]
 pub struct Placed {
     pub pages: ChildPages,
     pub trade: Trade,

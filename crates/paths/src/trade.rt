@@ -1,26 +1,29 @@
 // What a copy of a path does to the free list.
 ghost use Rattle.std.specs.Prelude.{◌≡◌, ◌+◌, ◌<◌, [], ◌∷◌, ◌++◌, length, slice_index};
+ghost use Rattle.paths.specs.OldPages.{old_pages};
 ghost use Rattle.records.specs.Free.{numbers};
 
-use arrayvec::ArrayVec;
+use crate::old_pages::OldPages;
 use records::free::FreeList;
 
 // It takes `used` pages from the front; and the old path's pages, the leaf's first, are free after it.
-#[derive(Drop, Default, PartialEq, Eq, Debug)]
+#[derive(Clone, Copy, Default, PartialEq, Eq, Debug)]
 pub struct Trade {
     pub used: usize,
-    pub path: ArrayVec<u16, 6>,
+    pub path: OldPages,
 }
 
 impl Trade {
     // The same with one more old page.
-    pub(crate) fn with_old(mut self, page: u16) -> Trade
-        requires { length self.path.items < 6 }
+    pub(crate) fn with_old(self, page: u16) -> Trade
+        requires { length (old_pages self.path) < 6 }
         ensures used { result.used ≡ self.used }
-        ensures path { result.path.items ≡ self.path.items ++ page ∷ [] }
+        ensures path { old_pages result.path ≡ old_pages self.path ++ page ∷ [] }
     {
-        self.path.push(page);
-        self
+        Trade {
+            path: self.path.with(page),
+            ..self
+        }
     }
 
     // Takes the next free page.

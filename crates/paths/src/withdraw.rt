@@ -2,6 +2,7 @@
 ghost use Rattle.std.specs.Prelude.{◌≡◌, ℕ, ◌+◌, ◌<◌, ◌≤◌, length, IfOk, IsTrue, ◌↔◌};
 ghost use Rattle.layout.specs.Listed.{entries};
 ghost use Rattle.records.specs.Free.{numbers};
+ghost use Rattle.paths.specs.OldPages.{old_pages};
 ghost use Rattle.paths.specs.PathsReading.{IsPath};
 ghost use Rattle.paths.specs.Withdrawals.{PlacesLeft, Withdrawn};
 ghost use Rattle.paths.specs.WithdrawRules.{RoomFor, WithdrawIs, WithdrawNextLaw, WithdrawFreeLaw, WithdrawRefusedLaw};
@@ -55,7 +56,7 @@ fn withdraw_at<S: PageStore>(
 ) -> Result<Left, Fault>
     requires { step.at.level ≤ length (numbers free.now) }
     ensures withdraws { Withdrawn (S.meaning store.old) step.at.level step.at.page address (numbers free.now) result (S.meaning store.new) }
-    ensures path { IfOk result (λ g. IsPath (S.meaning store.old) step.at.level step.at.page address g.trade.path.items) }
+    ensures path { IfOk result (λ g. IsPath (S.meaning store.old) step.at.level step.at.page address (old_pages g.trade.path)) }
 {
     let mut list = EntryList::new();
     read_page(store, step.at, &mut list)?;

@@ -1,5 +1,6 @@
 use Rattle.std.proofs.Common.{◌≤◌, ap, ◌∙◌, arith}
 use Rattle.std.proofs.lemmas.Result.{err_from_is_err_and}
+use Rattle.paths.specs.OldPages.{old_pages}
 use Rattle.paths.specs.declared.place.Placed.{Placed}
 use Rattle.paths.proofs.PathsReading.{goes}
 use Rattle.paths.proofs.PathsBack.{leaf_path, inner_path, same_path, path_length}
@@ -32,7 +33,7 @@ returns-in_err-pages-clause-lodges g t c =
 
 pub with_old-trade-requires-2 : goal.with_old-trade-requires-2
 with_old-trade-requires-2 g t c =
-    let n = path_length (g.S.PageStore.meaning c.read_page.new.store) c.child_at.result.level c.child_at.result.page c.args.address c.in_ok-pages.field-0.trade.path.items c.in_ok-pages.ensures.path in
+    let n = path_length (g.S.PageStore.meaning c.read_page.new.store) c.child_at.result.level c.child_at.result.page c.args.address (old_pages c.in_ok-pages.field-0.trade.path) c.in_ok-pages.ensures.path in
     omega (arith, n, c.child_at.ensures.level, c.args.step.six, c.args.step.one)
 
 pub place-requires : goal.place-requires
@@ -55,5 +56,5 @@ returns-clause-path g t c =
     let mean = g.S.PageStore.meaning in
     let two : 2 ≤ c.args.step.at.level = omega arith in
     let w = goes _ _ _ _ _ _ _ _ two c.in_ok-read_page.ensures c.child_at.ensures.page c.child_at.ensures.level in
-    let path : _ = inner_path _ _ (mean c.args.store.now) (mean c.read_page.new.store) _ _ _ _ c.in_ok-pages.field-0.trade.path.items _ w c.in_ok-pages.ensures.path c.with_old-trade-2.ensures.path in
+    let path : _ = inner_path _ _ (mean c.args.store.now) (mean c.read_page.new.store) _ _ _ _ (old_pages c.in_ok-pages.field-0.trade.path) _ w c.in_ok-pages.ensures.path c.with_old-trade-2.ensures.path in
     same_path (λ (x : Placed). x.trade.path) (mean c.args.store.now) _ _ _ _ c.place.result path c.place.ensures.path

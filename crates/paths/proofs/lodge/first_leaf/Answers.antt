@@ -1,5 +1,5 @@
-use Rattle.std.proofs.Common.{ℕ, ap, ◌∙◌, arith}
-use Rattle.arrayvec.specs.ArrayVec.{ArrayVec}
+use Rattle.std.proofs.Common.{ap, ◌∙◌, arith}
+use Rattle.paths.specs.OldPages.{old_pages}
 use Rattle.records.specs.Free.{numbers}
 use Rattle.std.proofs.lemmas.Result.{err_from_is_err_and}
 use Rattle.paths.proofs.LodgeRooting.{first_few, first_refused, first_made}
@@ -17,4 +17,4 @@ returns-in_err-write_items g c =
 pub returns : goal.returns
 returns g c =
     let q = rw c.default-trade.ensures.0 at c.next_page.ensures.page in
-    first_made _ _ 0 _ _ c.len.result _ _ _ (rw c.default-trade.ensures.0 at c.next_page.ensures.used) (ap (λ (v : ArrayVec ℕ). v.items) c.next_page.ensures.path ∙ c.default-trade.ensures.1) c.len.ensures (omega arith) q c.in_ok-write_items.ensures
+    first_made _ _ 0 _ _ c.len.result _ _ _ (rw c.default-trade.ensures.0 at c.next_page.ensures.used) (ap old_pages c.next_page.ensures.path ∙ c.default-trade.ensures.1) c.len.ensures (omega arith) q c.in_ok-write_items.ensures

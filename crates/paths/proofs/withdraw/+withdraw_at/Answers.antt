@@ -1,5 +1,6 @@
 use Rattle.std.proofs.Common.{◌≤◌, ◌∙◌, arith}
 use Rattle.std.proofs.lemmas.Result.{err_from_is_err_and}
+use Rattle.paths.specs.OldPages.{old_pages}
 use Rattle.paths.specs.declared.left.Left.{Left}
 use Rattle.paths.proofs.PathsReading.{goes}
 use Rattle.paths.proofs.PathsBack.{leaf_path, inner_path, same_path, path_length}
@@ -36,7 +37,7 @@ returns-in_err-below-clause-withdraws g t c =
 
 pub with_old-trade-requires-2 : goal.with_old-trade-requires-2
 with_old-trade-requires-2 g t c =
-    let n = path_length (g.S.PageStore.meaning c.read_page.new.store) c.child_at.result.level c.child_at.result.page c.args.address c.in_ok-below.below.trade.path.items c.in_ok-below.ensures.path in
+    let n = path_length (g.S.PageStore.meaning c.read_page.new.store) c.child_at.result.level c.child_at.result.page c.args.address (old_pages c.in_ok-below.below.trade.path) c.in_ok-below.ensures.path in
     omega (arith, n, c.child_at.ensures.level, c.args.step.six, c.args.step.one)
 
 pub place_left-requires-2 : goal.place_left-requires-2
@@ -57,5 +58,5 @@ returns-clause-path g t c =
     let mean = g.S.PageStore.meaning in
     let two : 2 ≤ c.args.step.at.level = omega arith in
     let w = goes _ _ c.args.step.at.level _ c.args.step.at.page c.args.address _ _ two c.in_ok-read_page.ensures c.child_at.ensures.page c.child_at.ensures.level in
-    let path : _ = inner_path _ _ (mean c.args.store.now) (mean c.read_page.new.store) _ _ _ _ c.in_ok-below.below.trade.path.items _ w c.in_ok-below.ensures.path c.with_old-trade-2.ensures.path in
+    let path : _ = inner_path _ _ (mean c.args.store.now) (mean c.read_page.new.store) _ _ _ _ (old_pages c.in_ok-below.below.trade.path) _ w c.in_ok-below.ensures.path c.with_old-trade-2.ensures.path in
     same_path (λ (x : Left). x.trade.path) (mean c.args.store.now) _ _ _ _ c.place_left-2.result path c.place_left-2.ensures.path
