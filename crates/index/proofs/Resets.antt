@@ -1,5 +1,7 @@
 -- Format, shut and grant are steps.
 use Rattle.std.proofs.Common.{◌≡◌, ℕ, zero, suc, ◌+◌, ◌≤◌, min, Bool, false, List, [], ◌∷◌, length, get_or, set, replicate, Ok, Err, sym, refl, ap, ◌∙◌, subst, inl, inr, zero-add, add-one, arith, length-set, get_or-set_same}
+use Rattle.std.proofs.Common.{Some, None, Option, is_some}
+use Rattle.std.proofs.lemmas.Bool.{true≢false}
 use Rattle.pages.specs.Image.{Image, Writes, written, granted}
 use Rattle.pages.specs.declared.fault.StoreFault.{StoreFault}
 use Rattle.pages.specs.declared.fault.StoreFault.TheVariants.{Absent, Uncharged}
@@ -19,10 +21,17 @@ use Rattle.index.specs.Keeping.{Holds, header_for}
 use Rattle.index.specs.Keeping.Content.{filed}
 use Rattle.index.specs.Steps.{Step, empty_file}
 use Rattle.index.specs.Steps.Does.{formatted, format_absent, format_uncharged, shut_down, given}
+use Rattle.index.specs.declared.index.OpenTree.{OpenTree}
+use Rattle.index.specs.View.{known_in}
 use Rattle.index.proofs.Keeps.{recharged, forgotten}
 
 pub shuts_down : (o : Order) (m : Image) (k : Known) → Step o (state m k) accepted (state m shut) shuts
 shuts_down o m k = record { size = refl; exact = λ c h. record { next = c; kept = forgotten o m k c h; does = shut_down refl refl refl } }
+
+-- an index that is shut already stays as it is
+pub stays_shut : (o : Order) (m : Image) (t : Option OpenTree) → is_some t ≡ false → Step o (state m (known_in t)) accepted (state m (known_in t)) shuts
+stays_shut o m None e = shuts_down o m shut
+stays_shut o m (Some t) e = absurd (true≢false e)
 
 pub grants_charge : (o : Order) (m m' : Image) (k : Known) (n : ℕ) → m' ≡ granted m n → Step o (state m k) accepted (state m' k) (grants n)
 grants_charge o m m' k n e = subst (λ (x : Image). Step o (state m k) accepted (state x k) (grants n)) (sym e)

@@ -49,7 +49,10 @@ impl<S: PageStore, O: PointOrder> Index<S, O> {
         ensures step { Step (O.PointOrder.meaning self.old.order) (view S.PageStore.meaning self.old) accepted (view S.PageStore.meaning self.new) shuts }
         ensures order { self.new.order ≡ self.old.order }
     {
-        self.tree = None;
+        // an index that is shut already costs nothing
+        if self.tree.is_some() {
+            self.tree = None;
+        }
     }
 
     // Sets the store's charge: the number of page accesses that the cell carries.
