@@ -1,6 +1,6 @@
 // A line as it is heard: its words with single spaces, and what they say.
-ghost use Rattle.std.specs.Prelude.{IfOk};
-ghost use Rattle.script.specs.Heard.{HeardIs};
+ghost use Rattle.std.specs.Prelude.{◌≡◌, ◌⊎◌, [], IfOk, IsTrue, ◌↔◌};
+ghost use Rattle.script.specs.Heard.{Comment, HeardIs};
 
 use crate::line::{Line, parse_line};
 use crate::trouble::Trouble;
@@ -13,11 +13,18 @@ pub struct Heard<'a> {
     pub says: Result<Line<'a>, Trouble>,
 }
 
+// Whether a line is passed over at sight: a comment, or nothing.
+pub fn is_silent(line: &str) -> bool
+    ensures { IsTrue result ↔ (Comment line.now ⊎ (line.now ≡ [])) }
+{
+    line.is_empty() || line.starts_with('#')
+}
+
 // Hears a line, where the space has n coordinates. None of a comment, and of a line without words.
 pub fn hear<'a>(heap: Global, line: &'a str, n: u8) -> Result<Option<Heard<'a>>, AllocError>
     ensures { IfOk result (HeardIs n line.now) }
 {
-    if line.starts_with('#') {
+    if is_silent(line) {
         return Ok(None);
     }
     let words = split_words(heap, line)?;

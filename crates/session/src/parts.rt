@@ -1,6 +1,7 @@
 // A script has parts, and each begins where the one before has made what it is there for.
 ghost use Rattle.std.specs.Prelude.{◌≡◌, ⊤, ℕ, drop, MatchResult};
 
+use script::heard::is_silent;
 use std::ops::ControlFlow;
 
 // What a line does to a part: the part goes on; or it ends, with what the line made, or with nothing where the line belongs to the next part.
@@ -16,6 +17,10 @@ pub fn part<'s, 't, T: Drop, F: FnMut(&'t str) -> anyhow::Result<Step<T>>>(
     ensures { MatchResult result (λ r. (k : ℕ) × (r.1.now ≡ drop k lines.now)) (λ _. ⊤) }
 {
     for (i, line) in lines.iter().enumerate() {
+        // asked here too, since most of what a heard line costs is to hand on what it says
+        if is_silent(line) {
+            continue;
+        }
         match line_does(line)? {
             ControlFlow::Continue(()) => {}
             ControlFlow::Break(Some(made)) => return Ok((Some(made), &lines[i + 1..])),

@@ -82,7 +82,9 @@ fn serve_in<S: PageStore + Drop, O: PointOrder + Copy>(
     Ok(())
 }
 
-// Runs the rest of the script over a store with all its layers.
+// Runs the rest of the script over a store with all its layers. Each pile has a copy of its own; in a function of its own it takes the stack of one pile
+// alone.
+#[inline(never)]
 pub fn serve<S: PageStore + Drop>(
     rt: &HostRuntime,
     session: &mut Session,

@@ -8,6 +8,7 @@ use crate::memory::{Kind, Memory, SLOT, blank_slots, filled};
 use crate::parts::{Step, part};
 use crate::session::{Chosen, Session};
 use answers::answer::Answer;
+use orders::refusal::Refusal;
 use orders::space::Space;
 use script::line::Line;
 use script::reason::Reason;
@@ -65,10 +66,13 @@ fn make_slots(rt: &HostRuntime, echo: &str, bytes: Vec<u8>, pages: u16) -> anyho
     })
 }
 
-fn store_line(rt: &HostRuntime, session: &mut Session, line: &str) -> anyhow::Result<Step<Memory>> {
-    let Some((echo, heard)) = hear(rt, session, line)? else {
-        return Ok(ControlFlow::Continue(()));
-    };
+// What a line that was heard does to this part.
+fn set_up(
+    rt: &HostRuntime,
+    session: &mut Session,
+    echo: String,
+    heard: Result<Line<'_>, Refusal>,
+) -> anyhow::Result<Step<Memory>> {
     match heard {
         Ok(Line::Setup(Setup::Order(kind, n, p))) => {
             say(rt, echo.as_str(), choose(session, kind, n, p))?;
@@ -99,6 +103,13 @@ fn store_line(rt: &HostRuntime, session: &mut Session, line: &str) -> anyhow::Re
         }
         _ => Ok(ControlFlow::Break(None)),
     }
+}
+
+fn store_line(rt: &HostRuntime, session: &mut Session, line: &str) -> anyhow::Result<Step<Memory>> {
+    let Some((echo, heard)) = hear(rt, session, line)? else {
+        return Ok(ControlFlow::Continue(()));
+    };
+    set_up(rt, session, echo, heard)
 }
 
 // The memory of the store, and the lines that are left.
