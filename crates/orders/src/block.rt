@@ -36,7 +36,8 @@ impl<'a, R: BitRule> Block<'a, R> {
         }
     }
 
-    // the half whose next bit is this one
+    // The half whose next bit is this one. In a function of its own it leaves little on the stack at each of the 60 levels of a first address.
+    #[inline(never)]
     fn half(&self, bit: u16) -> Block<'a, R>
         requires some { 0 < self.now.left }
         requires two { bit < 2 }
